@@ -1,0 +1,11 @@
+pub mod Appended
+pub mod ListLemmas
+pub mod PictureLemmas
+pub mod Written
+pub mod Taken
+pub mod NameMaps
+pub mod StoredFiles
+pub mod Kept
+pub mod FoundFiles
+pub mod FilesAfter
+pub mod NamedFile

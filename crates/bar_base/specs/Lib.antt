@@ -1,0 +1,12 @@
+pub mod Bits
+pub mod Elements
+pub mod GridText
+pub mod Picture
+pub mod Faults
+pub mod Files
+pub mod Outside
+pub mod Memory
+pub mod FileObjects
+pub mod Input
+pub mod MemoryFiles
+pub mod StoredFiles

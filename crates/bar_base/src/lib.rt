@@ -1,0 +1,57 @@
+//! The types that every crate of this repository shares: lists of elements, bits and codewords, messages, rows of modules.
+#![tactic(auto)]
+
+mod bits;
+mod element;
+mod elements;
+mod failed;
+mod file_sink;
+mod file_source;
+mod files;
+mod front;
+mod given_calls;
+mod grid;
+mod memory_files;
+mod memory_sink;
+mod memory_source;
+mod message;
+mod no_memory;
+mod place;
+mod reading;
+mod short;
+mod sink;
+mod source;
+mod std_files;
+mod std_sink;
+mod std_source;
+mod stored_file;
+mod stored_files;
+mod sure_source;
+mod take_fault;
+mod words;
+mod writing;
+
+pub use bits::Bits;
+pub use element::Element;
+pub use elements::Elements;
+pub use failed::Failed;
+pub use file_sink::FileSink;
+pub use file_source::FileSource;
+pub use files::Files;
+pub use grid::Grid;
+pub use memory_files::MemoryFiles;
+pub use memory_sink::MemorySink;
+pub use memory_source::MemorySource;
+pub use message::{Append, Ident, Message};
+pub use no_memory::NoMemory;
+pub use reading::read_all;
+pub use short::Short;
+pub use sink::Sink;
+pub use source::Source;
+pub use std_files::StdFiles;
+pub use std_sink::StdSink;
+pub use std_source::StdSource;
+pub use sure_source::SureSource;
+pub use take_fault::TakeFault;
+pub use words::Words;
+pub use writing::write_all;
