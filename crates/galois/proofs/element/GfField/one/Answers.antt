@@ -1,0 +1,9 @@
+use Rattle.std.proofs.Common.{refl}
+use Rattle.galois.specs.FieldLaws.{same_made, one_within}
+use Rattle.galois.proofs.element.GfField.one.Goals as goal
+
+pub invariant_of-result : goal.invariant_of-result
+invariant_of-result g c = record { in_range = one_within g.P.Poly.primitive }
+
+pub returns : goal.returns
+returns g c = same_made (λ n within. record { number = n; of = record {}; in_range = within }) _ _ _ _ refl

@@ -1,0 +1,35 @@
+-- words of a Reed-Solomon code: check sums, check words, the check elements of a front, the distance of two words
+use Rattle.std.specs.Prelude.{◌≡◌, ℕ, ◌+◌, ◌*◌, ◌≤◌, Bool, if◌then◌else◌, List, [], ◌∷◌, ◌++◌, length}
+
+-- The sum of a word's elements, each times the weight of its place. An element's place is the number of elements
+-- behind it: the exponent that it has where the word is read as a polynomial, its highest coefficient first.
+unfoldable pub weighted_sum : {A : Type 0} (nought : A) (plus times : A → A → A) (weight : ℕ → A) → List A → A
+weighted_sum nought plus times weight [] = nought
+weighted_sum nought plus times weight (x ∷ word) =
+    plus (times x (weight (length word))) (weighted_sum nought plus times weight word)
+
+-- The value of the word's polynomial at the power `k` of alpha (ISO/IEC 24778, Reed-Solomon error correction).
+unfoldable pub check_sum : {A : Type 0} (nought : A) (plus times : A → A → A) (power : ℕ → A) → List A → ℕ → A
+check_sum nought plus times power word k = weighted_sum nought plus times (λ place. power (k * place)) word
+
+-- A word with `count` check elements: its polynomial has the roots alpha to the power 1, 2 and so on up to `count`
+-- (ISO/IEC 24778, Reed-Solomon error correction: a multiple of the generator polynomial).
+pub record IsCheckWord {A : Type 0} (nought : A) (plus times : A → A → A) (power : ℕ → A) (word : List A) (count : ℕ) : Type 0 where
+  pub root : (k : ℕ) → 1 ≤ k → k ≤ count → check_sum nought plus times power word k ≡ nought
+
+-- The check elements of a front: behind it they make a check word with as many check elements as there are of them,
+-- and no other elements do (ISO/IEC 24778, Reed-Solomon error correction).
+pub record IsCheckOf {A : Type 0} (nought : A) (plus times : A → A → A) (power : ℕ → A) (front check : List A) : Type 0 where
+  pub word : IsCheckWord nought plus times power (front ++ check) (length check)
+  pub only : (other : List A) → length other ≡ length check → IsCheckWord nought plus times power (front ++ other) (length check) → other ≡ check
+
+-- The value at `x` of the polynomial with these coefficients, the lowest first.
+unfoldable pub coefficients_value : {A : Type 0} (nought : A) (plus times : A → A → A) → List A → A → A
+coefficients_value nought plus times [] x = nought
+coefficients_value nought plus times (a ∷ coefficients) x = plus a (times x (coefficients_value nought plus times coefficients x))
+
+-- The distance of two words of one length: the number of places at which they differ.
+unfoldable pub distance : {A : Type 0} (equal : A → A → Bool) → List A → List A → ℕ
+distance equal [] _ = 0
+distance equal (x ∷ word) [] = 0
+distance equal (x ∷ word) (y ∷ other) = (if equal x y then 0 else 1) + distance equal word other

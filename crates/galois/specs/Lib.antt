@@ -1,0 +1,9 @@
+pub mod CheckWord
+pub mod Field
+pub mod Polynomials
+pub mod XorLaws
+pub mod DivisionLaws
+pub mod MultipleLaws
+pub mod PowerLaws
+pub mod FieldLaws
+pub mod PrimitiveLaws
