@@ -1,0 +1,13 @@
+pub mod Marks
+pub mod TableFacts
+pub mod EntryLaws
+pub mod Begins
+pub mod NumberLaws
+pub mod StandLaws
+pub mod BitLaws
+pub mod OrderLaws
+pub mod OneReading
+pub mod Steps
+pub mod PathLaws
+pub mod ContractLaws
+pub mod Paths
