@@ -1,0 +1,11 @@
+pub mod Order
+pub mod BelowLaws
+pub mod Fronts
+pub mod LatchLaws
+pub mod Small
+pub mod Standing
+pub mod SoFar
+pub mod PlaceLeast
+pub mod Filling
+pub mod PickLaws
+pub mod Drawing

@@ -1,0 +1,8 @@
+use Rattle.aztec_best.proofs.Filling.{IsFilledTo}
+use Rattle.aztec_best.proofs.fill.fill_places.Given as goal
+
+abbrev pub invariant-loop-place : goal.invariant-loop-place
+invariant-loop-place l = IsFilledTo l.costs l.elements l.place l.ahead
+
+abbrev pub decreases-loop-place : goal.decreases-loop-place
+decreases-loop-place l = l.place

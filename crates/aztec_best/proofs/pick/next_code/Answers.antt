@@ -1,0 +1,19 @@
+use Rattle.std.proofs.Common.{ap}
+use Rattle.aztec_best.specs.Search.{picked}
+use Rattle.aztec_best.proofs.PickLaws.{picked-there}
+use Rattle.aztec_best.proofs.Small.{filled_through}
+use Rattle.aztec_best.proofs.pick.next_code.Goals as goal
+
+pub pick-requires-clause-ready : goal.pick-requires-clause-ready
+pick-requires-clause-ready c = record {
+  filled = filled_through _ _ _ c.requires.filled;
+  within = c.requires.within;
+  fronts = c.front_at-front.ensures;
+  valid = c.len-len.ensures.elements;
+}
+
+pub unreachable-requires : goal.unreachable-requires
+unreachable-requires c =
+    let (code, there) = picked-there c.args.costs.now c.args.elements.now c.requires.filled c.len-len.ensures.elements c.args.at.place c.args.at.mode c.requires.within in
+    let same = ap (picked c.args.costs.now c.args.at.place c.args.at.mode) c.front_at-front.ensures in
+    cc
