@@ -1,0 +1,100 @@
+-- What the loops that draw have drawn so far: the first of their modules.
+use Rattle.std.proofs.Common.{◌≡◌, ℕ, ◌+◌, ◌-◌, ◌*◌, ◌<◌, ◌≤◌, Bool, true, List, Some, length, refl, ap, subst, sym, ◌∙◌, arith}
+use Rattle.std.specs.Prelude.{IsTrue, slice_get}
+use Rattle.std.proofs.lemmas.Option.{slice_get_within}
+use Rattle.bar_base.specs.Picture.{Picture, row_count}
+use Rattle.aztec_layout.specs.Core.{is_dark_fixed, mode_place}
+use Rattle.aztec_layout.specs.Painting.{Paints}
+use Rattle.aztec_layout.specs.declared.sizes.Size.{Size}
+use Rattle.aztec_layout.specs.Places.{IsPlace, bits_before, pairs_of}
+use Rattle.aztec_layout.specs.SymbolGrid.{IsDataDot, IsLayerDot, IsModeDot}
+use Rattle.aztec_layout.proofs.PaintingLemmas.{Upto, paints_same}
+use Rattle.aztec_layout.proofs.Spots.{SamePlace, place_only}
+
+-- the dark fixed module in column `column` of row y
+abbrev pub FixedDot : (full : Bool) (centre y column a b : ℕ) → Type 0
+FixedDot full centre y column a b = (is_dark_fixed full centre column y ≡ true) × (a ≡ column) × (b ≡ y)
+
+-- the dark fixed modules of row `row`
+abbrev pub FixedRow : (full : Bool) (centre row a b : ℕ) → Type 0
+FixedRow full centre row a b = (b ≡ row) × IsTrue (is_dark_fixed full centre a b)
+
+pub fixed_row_done : (full : Bool) (centre y n : ℕ) (g h : Picture) → g.width ≡ n → Paints g h (Upto (FixedDot full centre y) n) →
+    Paints g h (FixedRow full centre y)
+fixed_row_done full centre y n g h wide p = paints_same g h (Upto (FixedDot full centre y) n) (FixedRow full centre y) p
+    (λ a b in_a in_b q. (q.2.2, ap (λ (t : ℕ). is_dark_fixed full centre a t) q.2.2 ∙ ap (λ (t : ℕ). is_dark_fixed full centre t y) q.2.1 ∙ q.2.0))
+    (λ a b in_a in_b q. (a, subst (λ (w : ℕ). a < w) wide in_a, (ap (λ (t : ℕ). is_dark_fixed full centre a t) (sym q.0) ∙ q.1, refl, q.0)))
+
+pub fixed_done : (full : Bool) (centre n : ℕ) (g h : Picture) → row_count g ≡ n → Paints g h (Upto (FixedRow full centre) n) →
+    Paints g h (λ x y. IsTrue (is_dark_fixed full centre x y))
+fixed_done full centre n g h tall p = paints_same g h (Upto (FixedRow full centre) n) (λ x y. IsTrue (is_dark_fixed full centre x y)) p
+    (λ a b in_a in_b q. q.2.1)
+    (λ a b in_a in_b q. (b, subst (λ (w : ℕ). b < w) tall in_b, (refl, q)))
+
+-- bit `bit` of the mode message, if it is 1
+abbrev pub ModeDot : (full : Bool) (centre : ℕ) (bits : List Bool) (bit a b : ℕ) → Type 0
+ModeDot full centre bits bit a b = (slice_get bits bit ≡ Some true) × ((a, b) ≡ mode_place full centre bit)
+
+some_once : (a b : Bool) → Some a ≡ Some b → a ≡ b
+some_once a b e = cc
+
+pub mode_dot : (full : Bool) (centre : ℕ) (bits : List Bool) (bit x y : ℕ) (dark : Bool) (g h : Picture) →
+    slice_get bits bit ≡ Some dark → x ≡ (mode_place full centre bit).0 → y ≡ (mode_place full centre bit).1 →
+    Paints g h (λ a b. (dark ≡ true) × (a ≡ x) × (b ≡ y)) → Paints g h (ModeDot full centre bits bit)
+mode_dot full centre bits bit x y dark g h here is-x is-y p =
+    paints_same g h (λ a b. (dark ≡ true) × (a ≡ x) × (b ≡ y)) (ModeDot full centre bits bit) p
+    (λ a b in_a in_b q. (here ∙ ap Some q.0, ap (λ (t : ℕ). (t, b)) (q.1 ∙ is-x) ∙ ap (λ (t : ℕ). ((mode_place full centre bit).0, t)) (q.2 ∙ is-y)))
+    (λ a b in_a in_b q. (some_once dark true (sym here ∙ q.0), ap (λ (t : ℕ × ℕ). t.0) q.1 ∙ sym is-x, ap (λ (t : ℕ × ℕ). t.1) q.1 ∙ sym is-y))
+
+pub mode_done : (full : Bool) (centre : ℕ) (bits : List Bool) (n : ℕ) (g h : Picture) → length bits ≡ n → Paints g h (Upto (ModeDot full centre bits) n) →
+    Paints g h (IsModeDot full centre bits)
+mode_done full centre bits n g h all p = paints_same g h (Upto (ModeDot full centre bits) n) (IsModeDot full centre bits) p
+    (λ a b in_a in_b q. record { bit = q.0; one = q.2.0; place = q.2.1 })
+    (λ a b in_a in_b q. (q.bit, subst (λ (k : ℕ). q.bit < k) all (slice_get_within bits q.bit true q.one), (q.one, q.place)))
+
+-- bit `number` of a layer, if it is 1
+abbrev pub DataDot : (size : Size) (bits : List Bool) (layer number a b : ℕ) → Type 0
+DataDot size bits layer number a b =
+    (slice_get bits (bits_before size layer + number) ≡ Some true) × IsPlace size (bits_before size layer + number) a b
+
+pub data_dot : (size : Size) (bits : List Bool) (layer number at x y : ℕ) (dark : Bool) (g h : Picture) →
+    at ≡ bits_before size layer + number → slice_get bits at ≡ Some dark → IsPlace size (bits_before size layer + number) x y →
+    Paints g h (λ a b. (dark ≡ true) × (a ≡ x) × (b ≡ y)) → Paints g h (DataDot size bits layer number)
+data_dot size bits layer number at x y dark g h is-at here there p =
+    let here' : slice_get bits (bits_before size layer + number) ≡ Some dark = ap (slice_get bits) (sym is-at) ∙ here in
+    paints_same g h (λ a b. (dark ≡ true) × (a ≡ x) × (b ≡ y)) (DataDot size bits layer number) p
+    (λ a b in_a in_b q. (
+      here' ∙ ap Some q.0,
+      subst (λ (t : ℕ). IsPlace size (bits_before size layer + number) t b) (sym q.1)
+          (subst (λ (t : ℕ). IsPlace size (bits_before size layer + number) x t) (sym q.2) there),
+    ))
+    (λ a b in_a in_b q.
+    let only : SamePlace a x b y = place_only size (bits_before size layer + number) a b x y q.1 there in
+    (some_once dark true (sym here' ∙ q.0), only.column, only.row))
+
+pub layer_done : (size : Size) (bits : List Bool) (layer n : ℕ) (g h : Picture) → n ≡ 8 * pairs_of size layer →
+    Paints g h (Upto (DataDot size bits layer) n) → Paints g h (IsLayerDot size bits layer)
+layer_done size bits layer n g h all p = paints_same g h (Upto (DataDot size bits layer) n) (IsLayerDot size bits layer) p
+    (λ a b in_a in_b q. record {
+      bit = bits_before size layer + q.0;
+      from = omega arith;
+      below = let few : q.0 < n = q.1 in omega (arith, all, few);
+      one = q.2.0;
+      place = q.2.1;
+    })
+    (λ a b in_a in_b q.
+    let e : bits_before size layer + (q.bit - bits_before size layer) ≡ q.bit = omega (arith, q.from) in (
+      q.bit - bits_before size layer,
+      (let below : q.bit < bits_before size layer + 8 * pairs_of size layer = q.below in let from : bits_before size layer ≤ q.bit = q.from in omega (arith, all)),
+      (ap (slice_get bits) e ∙ q.one, subst (λ (t : ℕ). IsPlace size t a b) (sym e) q.place),
+    ))
+
+pub data_done : (size : Size) (bits : List Bool) (n : ℕ) (g h : Picture) → n ≡ size.layers →
+    Paints g h (Upto (IsLayerDot size bits) n) → Paints g h (IsDataDot size bits)
+data_done size bits n g h all p = paints_same g h (Upto (IsLayerDot size bits) n) (IsDataDot size bits) p
+    (λ a b in_a in_b q. record { bit = q.2.bit; one = q.2.one; place = q.2.place })
+    (λ a b in_a in_b q. (
+      q.place.layer,
+      subst (λ (t : ℕ). q.place.layer < t) (sym all) q.place.is_layer,
+      record { bit = q.bit; from = q.place.from; below = q.place.below; one = q.one; place = q.place },
+    ))

@@ -1,0 +1,6 @@
+use Rattle.std.proofs.Common.{◌≡◌, ◌++◌, [], take}
+use Rattle.aztec_layout.specs.ModeMessage.{word_bits}
+use Rattle.aztec_layout.proofs.bit_rows.mode_bits.Given as goal
+
+abbrev pub invariant-loop-place : goal.invariant-loop-place
+invariant-loop-place g l = l.row ≡ [] ++ word_bits 4 (take l.place l.words)

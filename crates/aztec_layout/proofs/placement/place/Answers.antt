@@ -1,0 +1,45 @@
+use Rattle.std.proofs.Common.{◌≡◌, ℕ, ◌+◌, ◌-◌, ◌≤◌, subst, ap, arith}
+use Rattle.aztec_layout.specs.declared.sizes.Size.{Size}
+use Rattle.aztec_layout.specs.Sizes.{bits_of}
+use Rattle.aztec_layout.specs.Places.{IsPlace, bits_before}
+use Rattle.aztec_layout.proofs.Layers.{bits_before-all}
+use Rattle.aztec_layout.proofs.Spots.{SamePlace, place_apart, place_free, place_only}
+use Rattle.aztec_layout.proofs.placement.place.Goals as goal
+
+-- what `place_in` gives at the bit's number in its layer is the bit's place
+at_bit : (s : Size) (layer before bit x y : ℕ) → before ≡ bits_before s layer → before ≤ bit →
+    IsPlace s (bits_before s layer + (bit - before)) x y → IsPlace s bit x y
+at_bit s layer before bit x y is-before le p =
+    subst (λ (q : ℕ). IsPlace s q x y) (let e : bits_before s layer + (bit - before) ≡ bit = omega arith in e) p
+
+pub returns-then-bit-before-clause-only : goal.returns-then-bit-before-clause-only
+returns-then-bit-before-clause-only c = λ x y p.
+    let e : SamePlace x c.place_in.result.0 y c.place_in.result.1 =
+    place_only c.args.size c.args.bit x y c.place_in.result.0 c.place_in.result.1 p
+    (at_bit c.args.size c.loop-layer.layer c.loop-layer.before c.args.bit c.place_in.result.0 c.place_in.result.1
+    c.loop-layer.invariant.0 c.loop-layer.invariant.1 c.place_in.ensures.place) in
+    (e.column, e.row)
+
+pub returns-then-bit-before-clause-apart : goal.returns-then-bit-before-clause-apart
+returns-then-bit-before-clause-apart c = λ q p.
+    place_apart c.args.size q c.args.bit c.place_in.result.0 c.place_in.result.1 p
+    (at_bit c.args.size c.loop-layer.layer c.loop-layer.before c.args.bit c.place_in.result.0 c.place_in.result.1
+    c.loop-layer.invariant.0 c.loop-layer.invariant.1 c.place_in.ensures.place)
+
+pub returns-then-bit-before-clause-free : goal.returns-then-bit-before-clause-free
+returns-then-bit-before-clause-free c =
+    place_free c.args.size c.args.bit c.place_in.result.0 c.place_in.result.1
+    (at_bit c.args.size c.loop-layer.layer c.loop-layer.before c.args.bit c.place_in.result.0 c.place_in.result.1
+    c.loop-layer.invariant.0 c.loop-layer.invariant.1 c.place_in.ensures.place)
+
+pub unreachable-requires : goal.unreachable-requires
+unreachable-requires c =
+    let all : bits_before c.args.size c.args.size.layers ≡ bits_of c.args.size = bits_before-all c.args.size in
+    let same : bits_before c.args.size c.loop-layer.layer ≡ bits_before c.args.size c.args.size.layers =
+    ap (bits_before c.args.size) (let e : c.loop-layer.layer ≡ c.args.size.layers = omega arith in e) in
+    omega (arith, all, same)
+
+pub returns-then-bit-before-clause-place : goal.returns-then-bit-before-clause-place
+returns-then-bit-before-clause-place c =
+    at_bit c.args.size c.loop-layer.layer c.loop-layer.before c.args.bit c.place_in.result.0 c.place_in.result.1
+    c.loop-layer.invariant.0 c.loop-layer.invariant.1 c.place_in.ensures.place

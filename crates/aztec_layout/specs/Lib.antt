@@ -1,0 +1,10 @@
+pub mod Core
+pub mod CoreReading
+pub mod ModeMessage
+pub mod Painting
+pub mod Places
+pub mod Rune
+pub mod Sizes
+pub mod Smallest
+pub mod Stuffing
+pub mod SymbolGrid

@@ -1,0 +1,56 @@
+ghost use Rattle.std.specs.Prelude.{◌≡◌, ℕ, ◌+◌, ◌*◌, ◌^◌, ◌<◌, ◌≤◌, true, IsTrue, length};
+ghost use Rattle.bar_base.specs.Picture.{row_count};
+ghost use Rattle.aztec_layout.specs.Core.{is_dark_fixed as is_dark_fixed_at, mode_run as mode_run_of, rim_of};
+ghost use Rattle.aztec_layout.specs.Painting.{Paints};
+ghost use Rattle.aztec_layout.specs.SymbolGrid.{IsModeDot};
+
+use crate::core_symbol::{is_dark_fixed, mode_place};
+use bar_base::{Bits, Grid};
+
+/// Makes a module dark where `dark` says so.
+pub(crate) fn dot(grid: &mut Grid, x: u32, y: u32, dark: bool)
+    requires column { x < grid.old.width }
+    requires row { y < row_count grid.old }
+    ensures { Paints grid.old grid.new (λ a b. (dark ≡ true) × (a ≡ x) × (b ≡ y)) }
+{
+    let was = grid.dark(x, y);
+    grid.set(x, y, dark | was);
+}
+
+/// Draws the finder, the orientation marks and the reference grid.
+pub(crate) fn draw_fixed(grid: &mut Grid, full: bool, centre: u32)
+    requires room { rim_of full ≤ centre }
+    requires fits { centre < 2 ^ 31 }
+    ensures { Paints grid.old grid.new (λ x y. IsTrue (is_dark_fixed_at full centre x y)) }
+{
+    for y in 0..grid.rows() {
+        draw_fixed_row(grid, full, centre, y);
+    }
+}
+
+/// Draws what stands of them in one row.
+fn draw_fixed_row(grid: &mut Grid, full: bool, centre: u32, y: u32)
+    requires room { rim_of full ≤ centre }
+    requires fits { centre < 2 ^ 31 }
+    requires row { y < row_count grid.old }
+    ensures { Paints grid.old grid.new (λ a b. (b ≡ y) × IsTrue (is_dark_fixed_at full centre a b)) }
+{
+    for x in 0..grid.width() {
+        dot(grid, x, y, is_dark_fixed(full, centre, x, y));
+    }
+}
+
+/// Draws the bits of a mode message.
+pub(crate) fn draw_mode(grid: &mut Grid, full: bool, centre: u32, bits: &Bits)
+    requires room { rim_of full ≤ centre }
+    requires fits { centre < 2 ^ 31 }
+    requires columns { centre + rim_of full < grid.old.width }
+    requires rows { centre + rim_of full < row_count grid.old }
+    requires bits { length bits.now ≡ 4 * mode_run_of full }
+    ensures { Paints grid.old grid.new (IsModeDot full centre bits.now) }
+{
+    for bit in 0..bits.len() {
+        let (x, y) = mode_place(full, centre, bit as u32);
+        dot(grid, x, y, bits.get(bit).unwrap());
+    }
+}

@@ -1,0 +1,118 @@
+ghost use Rattle.std.specs.Prelude.{◌≡◌, ℕ, ◌+◌, ◌*◌, ◌-◌, ◌/◌, ◌^◌, ◌<◌, ◌≤◌};
+ghost use Rattle.aztec_layout.specs.Sizes.{IsSize, base_of, bits_of};
+ghost use Rattle.aztec_layout.specs.Places.{IsFree, IsPlace, bits_before, corner_at, corner_of, line_of, pairs_of};
+
+use crate::sizes::{Size, base, side};
+
+/// The column and row of data bit `bit` of a symbol, counted from the outside (ISO/IEC 24778, data
+/// placement). The bit is one of the size's data layers.
+pub fn place(size: Size, bit: u32) -> (u32, u32)
+    requires sized { IsSize size }
+    requires inside { bit < bits_of size }
+    ensures place { IsPlace size bit result.0 result.1 }
+    ensures only { (x y : ℕ) → IsPlace size bit x y → (x ≡ result.0) × (y ≡ result.1) }
+    ensures apart { (q : ℕ) → IsPlace size q result.0 result.1 → q ≡ bit }
+    ensures free { IsFree size result.0 result.1 }
+{
+    let mut before = 0;
+    for layer in 0..size.layers {
+        let more = 8 * pairs(size, layer);
+        if bit - before < more {
+            return place_in(size, layer, bit - before);
+        }
+        before += more;
+    }
+    unreachable!()
+}
+
+/// The column and row of bit `number` of a layer.
+pub(crate) fn place_in(size: Size, layer: u32, number: u32) -> (u32, u32)
+    requires sized { IsSize size }
+    requires layer { layer < size.layers }
+    requires inside { number < 8 * pairs_of size layer }
+    ensures place { IsPlace size (bits_before size layer + number) result.0 result.1 }
+    ensures free { IsFree size result.0 result.1 }
+    ensures inside { bits_before size layer + number < bits_of size }
+{
+    let (column, row) = corner(size, layer, number);
+    (line(size, column), line(size, row))
+}
+
+/// The bits of the layers outside a layer.
+pub(crate) fn first_bit(size: Size, layer: u32) -> u32
+    requires sized { IsSize size }
+    requires layer { layer < size.layers }
+    ensures { result ≡ bits_before size layer }
+{
+    8 * layer * (base(size) - 2 * layer)
+}
+
+/// The pairs of bits on one side of a layer.
+pub(crate) fn pairs(size: Size, layer: u32) -> u32
+    requires sized { IsSize size }
+    requires layer { layer < size.layers }
+    ensures pairs { result ≡ pairs_of size layer }
+    ensures bounded { pairs_of size layer ≤ 140 }
+{
+    let innermost = if size.full { 12 } else { 9 };
+    4 * (size.layers - layer) + innermost
+}
+
+/// The place of bit `number` of a layer, in columns and rows without reference lines.
+fn corner(size: Size, layer: u32, number: u32) -> (u32, u32)
+    requires sized { IsSize size }
+    requires layer { layer < size.layers }
+    requires inside { number < 8 * pairs_of size layer }
+    ensures column { result.0 ≡ (corner_at size layer number).0 }
+    ensures row { result.1 ≡ (corner_at size layer number).1 }
+    ensures column_inside { result.0 < base_of size }
+    ensures row_inside { result.1 < base_of size }
+{
+    let run = 2 * pairs(size, layer);
+    let low = 2 * layer;
+    let high = base(size) - 1 - low;
+    let round = number / run;
+    let pair = number % run / 2;
+    let bit = number % 2;
+    turned(low, high, round, pair, bit)
+}
+
+/// The place of a pair's bit on side `round` of a layer from `low` to `high`.
+fn turned(low: u32, high: u32, round: u32, pair: u32, bit: u32) -> (u32, u32)
+    requires low { low + pair < 2 ^ 32 }
+    requires bit { low + bit < 2 ^ 32 }
+    requires high { pair ≤ high }
+    requires bit_high { bit ≤ high }
+    ensures column { result.0 ≡ (corner_of low high round pair bit).0 }
+    ensures row { result.1 ≡ (corner_of low high round pair bit).1 }
+{
+    if round == 0 {
+        (low + bit, low + pair)
+    } else if round == 1 {
+        (low + pair, high - bit)
+    } else if round == 2 {
+        (high - bit, high - pair)
+    } else {
+        (high - pair, low + bit)
+    }
+}
+
+/// The column or row that is number `number` among those without reference lines.
+fn line(size: Size, number: u32) -> u32
+    requires sized { IsSize size }
+    requires inside { number < base_of size }
+    ensures { result ≡ line_of size number }
+{
+    if !size.full {
+        return number;
+    }
+    let half = base(size) / 2;
+    let centre = side(size) / 2;
+    if number < half {
+        let steps = half - 1 - number;
+        centre - 1 - steps - steps / 15
+    } else {
+        let steps = number - half;
+        centre + 1 + steps + steps / 15
+    }
+}
