@@ -1,0 +1,14 @@
+//! From the elements of a message to its whole Aztec symbol (ISO/IEC 24778): the drawn spelling in the smallest
+//! allowed size that holds it, with its check codewords, as a grid of modules.
+#![tactic(auto)]
+
+mod codewords;
+mod fault;
+mod refusal;
+mod symbol;
+
+pub use fault::DrawFault;
+pub use symbol::{Symbol, draw_elements};
+
+#[cfg(test)]
+mod tests;

@@ -1,0 +1,101 @@
+//! A worked symbol, and a version that holds what it holds, by hand.
+
+use crate::{DrawFault, Symbol, draw_elements};
+use aztec_layout::Size;
+use bar_base::{Bits, Element, Elements, Grid};
+use std::alloc::Global;
+use std::process::Abort;
+use std::test::Fail;
+
+const COMPACT_ONE: Size = Size {
+    full: false,
+    layers: 1,
+};
+
+const WORKED_BITS: &[u8; 56] = b"00100111001000000101001101111000010100111100101000000110";
+
+const WORKED_LINES: [&[u8; 15]; 15] = [
+    b"000110001100000",
+    b"000000110000010",
+    b"101100001000101",
+    b"011111111111100",
+    b"111100000001101",
+    b"000101111101100",
+    b"100101000101111",
+    b"001101010101001",
+    b"001101000101010",
+    b"010101111101001",
+    b"100100000001011",
+    b"100111111111101",
+    b"010001100010010",
+    b"011000011011010",
+    b"111001101100000",
+];
+
+fn draw_bytes<R: Abort>(
+    rt: &R,
+    alloc: Global,
+    bytes: &[u8],
+    share: u32,
+    version: u32,
+) -> Result<Symbol, DrawFault> {
+    let mut elements = Elements::new(alloc);
+    for byte in bytes {
+        elements.push(Element::Byte(*byte))?;
+    }
+    assert!(rt; !elements.is_empty() && elements.len() <= 8192);
+    assert!(rt; share <= 50 && version <= 36);
+    draw_elements(alloc, &elements, share, version)
+}
+
+fn has_bits(bits: &Bits, expected: &[u8]) -> bool {
+    if bits.len() != expected.len() {
+        return false;
+    }
+    for (at, character) in expected.iter().enumerate() {
+        if bits.get(at) != Some(*character == b'1') {
+            return false;
+        }
+    }
+    true
+}
+
+fn shows_line(grid: &Grid, y: u32, line: &[u8]) -> bool {
+    if y >= grid.rows() || grid.width() as usize != line.len() {
+        return false;
+    }
+    for x in 0..grid.width() {
+        if grid.dark(x, y) != (line[x as usize] == b'1') {
+            return false;
+        }
+    }
+    true
+}
+
+#[test]
+fn worked_symbol(rt: HostRuntime) -> Result<(), Fail> {
+    let symbol = draw_bytes(&rt, rt.alloc(), b"Code 2D!", 23, 0)?;
+    assert!(rt; has_bits(&symbol.spelling, WORKED_BITS));
+    assert_eq!(rt; symbol.size, COMPACT_ONE);
+    assert_eq!(rt; symbol.held, 10);
+    assert_eq!(rt; symbol.grid.rows(), 15);
+    for (y, line) in WORKED_LINES.iter().enumerate() {
+        assert!(rt; y < 15 && shows_line(&symbol.grid, y as u32, *line));
+    }
+    Ok(())
+}
+
+// 16 letters have 80 bits, 14 codewords of 6 bits; 17 have 85, one codeword more. Compact 1 has 17 codewords.
+#[test]
+fn version_with_any_share_holds_all_but_three(rt: HostRuntime) -> Result<(), Fail> {
+    let symbol = draw_bytes(&rt, rt.alloc(), b"AAAAAAAAAAAAAAAA", 50, 1)?;
+    assert_eq!(rt; symbol.held, 14);
+    match draw_bytes(&rt, rt.alloc(), b"AAAAAAAAAAAAAAAAA", 50, 1) {
+        Err(DrawFault::NoFit { needed, size, held }) => {
+            assert_eq!(rt; (needed, size.layers, held), (15, 1, 14));
+            assert!(rt; !size.full);
+        }
+        _ => assert!(rt; false),
+    }
+    Ok(())
+}
