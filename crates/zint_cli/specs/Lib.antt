@@ -1,0 +1,9 @@
+pub mod Answers
+pub mod Content
+pub mod Drawn
+pub mod DrawingText
+pub mod Effects
+pub mod NamedFile
+pub mod Outcome
+pub mod Response
+pub mod Rune

@@ -1,0 +1,159 @@
+//! Whole calls over objects in memory: what a failing outside leaves.
+use crate::run;
+use bar_base::{MemoryFiles, MemorySink, MemorySource, NoMemory};
+use std::alloc::{AllocError, Global};
+use std::test::Fail;
+
+const RUNE_0: &str =
+    "11101010101\n11111111111\n01000000010\n11011111011\n01010001010\n11010101011\n01010001010\n11011111011\n01000000010\n01111111111\n00101010100\n";
+
+/// The room of the outputs and of files, in bytes.
+const ROOM: usize = 4096;
+
+/// The numbers of the calls that fail, of each object of the outside.
+#[derive(Clone, Copy)]
+struct Fails<'a> {
+    input: &'a [u64],
+    files: &'a [u64],
+    out: &'a [u64],
+    err: &'a [u64],
+}
+
+const NONE: Fails<'static> = Fails {
+    input: &[],
+    files: &[],
+    out: &[],
+    err: &[],
+};
+
+/// What a call left.
+#[derive(Drop)]
+struct Left {
+    status: u8,
+    files: MemoryFiles,
+    out: MemorySink,
+    err: MemorySink,
+}
+
+fn words_of(alloc: Global, words: &[&str]) -> Result<Vec<String>, AllocError> {
+    let mut all = Vec::new(alloc);
+    all.push("zint".to_string(alloc)?)?;
+    for word in words {
+        all.push(word.to_string(alloc)?)?;
+    }
+    Ok(all)
+}
+
+/// The call of these words, over an input and a file `x` that can be made.
+fn call(alloc: Global, words: &[&str], input: &[u8], fails: &Fails<'_>) -> Result<Left, NoMemory> {
+    let words = words_of(alloc, words)?;
+    let mut input = MemorySource::new(alloc, input, fails.input)?;
+    let mut files = MemoryFiles::new(alloc, fails.files)?;
+    files.reserve("x", ROOM)?;
+    let mut out = MemorySink::new(alloc, ROOM, fails.out)?;
+    let mut err = MemorySink::new(alloc, ROOM, fails.err)?;
+    let status = run(alloc, &words, &mut input, &mut files, &mut out, &mut err);
+    Ok(Left {
+        status,
+        files,
+        out,
+        err,
+    })
+}
+
+#[test]
+fn draws_and_refuses_runes(rt: HostRuntime) -> Result<(), Fail> {
+    let left = call(rt.alloc(), &["-b", "128", "-d", "0"], b"", &NONE)?;
+    assert_eq!(rt; left.status, 0);
+    assert_eq!(rt; left.out.bytes(), RUNE_0.as_bytes());
+    assert!(rt; left.err.bytes().is_empty());
+    let left = call(rt.alloc(), &["-b", "128", "-d", "256"], b"", &NONE)?;
+    assert_eq!(rt; left.status, 6);
+    assert!(rt; left.out.bytes().is_empty());
+    assert_eq!(rt; left.err.bytes(), b"error 6: number at 0\n".as_slice());
+    Ok(())
+}
+
+#[test]
+fn a_failing_output_leaves_a_prefix(rt: HostRuntime) -> Result<(), Fail> {
+    let fails = Fails { out: &[2], ..NONE };
+    let left = call(rt.alloc(), &["-b", "128", "-d", "0"], b"", &fails)?;
+    assert_eq!(rt; left.status, 12);
+    assert_eq!(rt; left.out.bytes(), b"11101010101\n".as_slice());
+    assert_eq!(rt; left.err.bytes(), b"error 12: write\n".as_slice());
+    let fails = Fails { err: &[1], ..NONE };
+    let left = call(rt.alloc(), &["-b", "128", "-d", "256"], b"", &fails)?;
+    assert_eq!(rt; left.status, 6);
+    assert!(rt; left.err.bytes().is_empty());
+    Ok(())
+}
+
+/// The report of `Code 2D!`: seven lines in one write, and a write for each of the 15 lines of the grid.
+const REPORT: &str =
+    "symbol=92\nbits=56\nspelling=00100111001000000101001101111000010100111100101000000110\nsize=compact 1\nside=15\ncodewords=10+7\ngrid:\n000110001100000\n000000110000010\n101100001000101\n011111111111100\n111100000001101\n000101111101100\n100101000101111\n001101010101001\n001101000101010\n010101111101001\n100100000001011\n100111111111101\n010001100010010\n011000011011010\n111001101100000\n";
+
+#[test]
+fn each_failing_write_leaves_a_prefix(rt: HostRuntime) -> Result<(), Fail> {
+    for write in 1..17 {
+        let fails = Fails {
+            out: &[write],
+            ..NONE
+        };
+        let words = ["-b", "92", "-d", "Code 2D!", "--filetype=report"];
+        let left = call(rt.alloc(), &words, b"", &fails)?;
+        assert_eq!(rt; left.status, 12);
+        assert!(rt; REPORT.as_bytes().starts_with(left.out.bytes()));
+        assert!(rt; left.out.bytes().len() < REPORT.len());
+    }
+    let words = ["-b", "92", "-d", "Code 2D!", "--filetype=report"];
+    let left = call(rt.alloc(), &words, b"", &NONE)?;
+    assert_eq!(rt; left.status, 0);
+    assert_eq!(rt; left.out.bytes(), REPORT.as_bytes());
+    Ok(())
+}
+
+#[test]
+fn a_failing_input_is_no_end(rt: HostRuntime) -> Result<(), Fail> {
+    let fails = Fails {
+        input: &[2],
+        ..NONE
+    };
+    let left = call(rt.alloc(), &["-b", "92", "-i", "-"], b"A", &fails)?;
+    assert_eq!(rt; left.status, 10);
+    assert!(rt; left.out.bytes().is_empty());
+    assert_eq!(rt; left.err.bytes(), b"error 10: read\n".as_slice());
+    Ok(())
+}
+
+#[test]
+fn failing_files_keep_the_rest(rt: HostRuntime) -> Result<(), Fail> {
+    let words = ["-b", "128", "-d", "0", "-o", "x"];
+    let left = call(rt.alloc(), &words, b"", &NONE)?;
+    assert_eq!(rt; left.status, 0);
+    let held = left.files.file("x").ok_or("no file x")?;
+    assert_eq!(rt; held, RUNE_0.as_bytes());
+    let left = call(
+        rt.alloc(),
+        &words,
+        b"",
+        &Fails {
+            files: &[1],
+            ..NONE
+        },
+    )?;
+    assert_eq!(rt; left.status, 12);
+    assert!(rt; left.files.file("x").is_none());
+    let left = call(
+        rt.alloc(),
+        &words,
+        b"",
+        &Fails {
+            files: &[2],
+            ..NONE
+        },
+    )?;
+    assert_eq!(rt; left.status, 12);
+    let held = left.files.file("x").ok_or("no file x")?;
+    assert!(rt; held.is_empty());
+    Ok(())
+}
