@@ -1,11 +1,12 @@
 pub mod Appended
 pub mod ListLemmas
 pub mod PictureLemmas
+pub mod StripeLaws
+pub mod NumberBits
+pub mod Buffered
+pub mod Weights
 pub mod Written
+pub mod PieceByPiece
 pub mod Taken
 pub mod NameMaps
-pub mod StoredFiles
-pub mod Kept
-pub mod FoundFiles
-pub mod FilesAfter
 pub mod NamedFile

@@ -1,4 +1,4 @@
--- Maps from names, as they stand in a list of items with a name each.
+-- Maps from names, as in a list of items with a name each.
 use Rattle.std.proofs.Common.{◌≡◌, ◌≢◌, ℕ, Bool, true, false, cond, List, None, Some, refl, sym, ap, ◌∙◌}
 use Rattle.std.specs.Ordering.{nat_cmp}
 use Rattle.std.specs.Str.{bytes_eq}
@@ -12,11 +12,11 @@ abbrev pub NameMap : Type 0 → Type 0
 NameMap X = FinMap (slice_cmp nat_cmp) X
 
 module _ {X : Type 0} where
-  -- what stands under a name after it was set
+  -- what is under a name after it was set
   pub get-inserted : (m : NameMap X) (name : List ℕ) (x : X) (q : List ℕ) → get (insert m name x) q ≡ cond (bytes_eq q name) (Some x) (get m q)
   get-inserted m name x q = get-insert nat_list_cmp_total m name x q ∙ ap (λ b. cond b (Some x) (get m q)) (sym (texts_ties q name))
 
-  -- what stands under a name after one was removed
+  -- what is under a name after one was removed
   pub get-removed : (m : NameMap X) (name q : List ℕ) → get (remove m name) q ≡ cond (bytes_eq q name) None (get m q)
   get-removed m name q = get-remove nat_list_cmp_total m name q ∙ ap (λ b. cond b None (get m q)) (sym (texts_ties q name))
 

@@ -1,5 +1,5 @@
 -- Counts of faults, and what a refused call owes to them.
-use Rattle.std.specs.Prelude.{ℕ, Bool, ◌≡◌, ◌<◌, ◌≤◌, ◌⊎◌, ◌+◌, ◌-◌, ◌^◌, min, Result, IsErr, if◌then◌else◌, is_err}
+use Rattle.std.specs.Prelude.{ℕ, ◌≡◌, ◌<◌, ◌≤◌, ◌⊎◌, ◌+◌, ◌-◌, ◌^◌, min, Result, IsErr, if◌then◌else◌, is_err}
 
 -- The last value of a count of faults, the greatest number of 64 bits: a count that has come to it stays there.
 abbrev pub last_count : ℕ
@@ -9,7 +9,7 @@ last_count = 2 ^ 64 - 1
 abbrev pub one_more : ℕ → ℕ
 one_more count = min (count + 1) last_count
 
--- A fault was counted: the count rose, or it stands at its last value.
+-- A fault was counted: the count rose, or it is at its last value.
 abbrev pub Rose : (old new : ℕ) → Type 0
 Rose old new = (old < new) ⊎ (new ≡ last_count)
 
@@ -26,9 +26,3 @@ count_after result count = if is_err result then one_more count else count
 pub record FaultCounts : Type 0 where
   pub reading : ℕ
   pub writing : ℕ
-
--- what is known of files that tell no content: whether one is open to be read, whether one is open to be written, and the counts
-pub record OpenFiles : Type 0 where
-  pub reads : Bool
-  pub writes : Bool
-  pub faults : FaultCounts

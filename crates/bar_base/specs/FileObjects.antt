@@ -1,4 +1,4 @@
--- The files that a file sink and a file source stand over.
+-- The files that a file sink and a file source are over.
 use Rattle.std.specs.Borrow.{MutBor}
 use Rattle.bar_base.specs.declared.file_sink.FileSink.{FileSink}
 use Rattle.bar_base.specs.declared.file_source.FileSource.{FileSource}

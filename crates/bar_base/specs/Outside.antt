@@ -1,17 +1,17 @@
--- The meaning of a source and a sink: the bytes, the count of faults, and the rest that stands beside them.
+-- The meaning of a source and a sink: the bytes, the count of faults, and what else no read or write changes.
 use Rattle.std.specs.Prelude.{ℕ, List, Option, None, take}
 use Rattle.std.specs.Borrow.{GName}
 use Rattle.std.specs.Io.KnownBytes.{Appends}
 use Rattle.bar_base.specs.Files.{FilesState}
 
--- What stands beside the bytes of a source or a sink, and no read or write of it changes: the files beside the one that is read
--- or written, where they are told, the count of faults that is not its own, and the files object that it stands over.
+-- What no read or write of a source or a sink changes but its bytes: the files other than the one that is read
+-- or written, where they are known, the count of faults that is not its own, and the files object that it is over.
 pub record Rest : Type 0 where
   pub files : Option FilesState
   pub faults : ℕ
   pub over : Option GName
 
--- the rest of an object that stands alone
+-- the rest of an object that is over no files
 abbrev pub nothing : Rest
 nothing = record { files = None; faults = 0; over = None }
 

@@ -1,7 +1,7 @@
 -- A picture of a symbol: rows of modules, each row with a height.
 use Rattle.std.specs.Prelude.{◌≡◌, ℕ, Bool, List, Option, length, take, drop, slice_get, slice_set, replicate, All, false, ◌≤◌, ◌+◌, ◌*◌}
 
--- The modules stand row by row from the top, in each row from the left; true is dark.
+-- The modules are given row by row from the top, in each row from the left; true is dark.
 pub record Picture : Type 0 where
   pub width : ℕ
   pub heights : List ℕ

@@ -6,7 +6,7 @@ use crate::failed::Failed;
 use crate::files::Files;
 use crate::sink::Sink;
 
-/// The file that is being written, as a sink. Its count is the one of faults in creating and writing, as it stands.
+/// The file that is being written, as a sink. Its count is the one of faults in creating and writing.
 #[derive(Drop)]
 pub struct FileSink<'a, F: Files> {
     files: &'a mut F,

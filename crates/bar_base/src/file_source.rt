@@ -6,7 +6,7 @@ use crate::failed::Failed;
 use crate::files::Files;
 use crate::source::Source;
 
-/// The file that is being read, as a source. Its count is the one of faults in opening and reading, as it stands.
+/// The file that is being read, as a source. Its count is the one of faults in opening and reading.
 #[derive(Drop)]
 pub struct FileSource<'a, F: Files> {
     files: &'a mut F,

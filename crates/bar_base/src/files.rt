@@ -9,7 +9,7 @@ use crate::failed::Failed;
 
 /// Files by their names, of which one at a time is read and one is written.
 pub trait Files {
-    /// The files, the one that is being read and the one that is being written, where they are told.
+    /// The files, the one that is being read and the one that is being written, where they are known.
     ghost state: { Self → Option FilesState };
 
     /// How often opening a file to read it, or a read, has failed; a count that never falls, of 64 bits.
@@ -18,14 +18,15 @@ pub trait Files {
     /// How often creating a file, or a write, has failed; a count that never falls, of 64 bits.
     ghost writing_faults: { Self → ℕ };
 
-    /// Begins to read the file of this name from its first byte. Where the files are told, it fails for a name that they lack; else
+    /// Begins to read the file of this name from its first byte. Where the files are known, it fails for a name that they lack; else
     /// `Failed` is answered only where a fault was counted. The files, and the one that is being written, stay.
     fn open_read(&mut self, name: &str) -> Result<(), Failed>
         ensures opened { OnOk result (Opens name.now (state self.old) (state self.new)) }
         ensures missing { Lacks name.now (state self.old) → IsErr result }
         ensures beside { option_map beside_reading (state self.new) ≡ option_map beside_reading (state self.old) }
         ensures later { reading_faults self.old ≤ reading_faults self.new }
-        ensures failed { IsErr result → Lacks name.now (state self.old) ⊎ Rose (reading_faults self.old) (reading_faults self.new) }
+        ensures failed { IsErr result →
+            Lacks name.now (state self.old) ⊎ Rose (reading_faults self.old) (reading_faults self.new) }
         ensures other_count { writing_faults self.new ≡ writing_faults self.old };
 
     /// Reads on in the file that is being read, as `Source` does; all else stays.
@@ -40,7 +41,8 @@ pub trait Files {
     /// answered only where a fault was counted; then the files, and the one that is being read, stay.
     fn create(&mut self, name: &str) -> Result<(), Failed>
         ensures created { OnOk result (state self.new ≡ option_map (created name.now) (state self.old)) }
-        ensures kept { OnErr result (option_map beside_writing (state self.new) ≡ option_map beside_writing (state self.old)) }
+        ensures kept { OnErr result (option_map beside_writing (state self.new)
+            ≡ option_map beside_writing (state self.old)) }
         ensures cause { HasCause (writing_faults self.old) (writing_faults self.new) result }
         ensures other_count { reading_faults self.new ≡ reading_faults self.old };
 

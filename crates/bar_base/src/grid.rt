@@ -41,6 +41,25 @@ impl Grid {
         })
     }
 
+    /// A picture of rows with these heights. Its modules are given row by row from the top, in each row from the left.
+    pub fn of_rows(
+        alloc: Global,
+        width: u32,
+        heights: &[u32],
+        modules: Vec<bool>,
+    ) -> Result<Grid, NoMemory>
+        requires shape { IsShaped (record { width = width; heights = heights.now; modules = modules.items }) }
+        ensures picture { IfOk result (λ grid. grid
+            ≡ record { width = width; heights = heights.now; modules = modules.items }) }
+    {
+        let heights = Vec::from_slice(alloc, heights)?;
+        Ok(Grid {
+            width,
+            heights,
+            modules,
+        })
+    }
+
     /// The number of modules in a row.
     pub fn width(&self) -> u32
         ensures width { result ≡ self.now.width }
@@ -79,6 +98,7 @@ impl Grid {
     pub fn height(&self, y: u32) -> u32
         requires row { y < row_count self.now }
         ensures height { slice_get self.now.heights y ≡ Some result }
+        ensures bounded { (1 ≤ result) × (result ≤ 200) }
     {
         self.heights[y as usize]
     }

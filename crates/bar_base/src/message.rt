@@ -1,4 +1,4 @@
-use crate::elements::Elements;
+use crate::lists::Elements;
 use crate::short::Short;
 
 /// The identifier of a structured append set: 1 to 32 bytes from 33 to 126, or none where it is empty.

@@ -2,6 +2,7 @@ ghost use Rattle.std.specs.Prelude.{◌≡◌, ◌≤◌, ◌≢◌, ℕ, vec_le
 ghost use Rattle.std.specs.List.{starts_with};
 ghost use Rattle.std.specs.Io.KnownBytes.{Consumes, IsAtEnd};
 ghost use Rattle.bar_base.specs.Faults.{Rose};
+ghost use Rattle.bar_base.specs.Limits.{most_bmp_bytes};
 ghost use Rattle.bar_base.specs.Input.{limit_for, TakesPrefix, IsTooLong, TakesMore};
 
 use crate::source::Source;
@@ -18,16 +19,17 @@ pub fn read_all<S: Source>(
     bmp_limit: usize,
 ) -> Result<Vec<u8>, TakeFault>
     requires low { 2 ≤ limit }
-    requires high { limit ≤ 33554432 }
+    requires high { limit ≤ most_bmp_bytes }
     requires bmp_low { 2 ≤ bmp_limit }
-    requires bmp_high { bmp_limit ≤ 33554432 }
+    requires bmp_high { bmp_limit ≤ most_bmp_bytes }
     ensures whole { IfOk result (λ bytes. IfSome (S.left source.old) (λ input. bytes.items ≡ input)) }
     ensures taken { IfOk result (λ bytes. Consumes (S.left source.old) (S.left source.new) bytes.items) }
     ensures ended { OnOk result (IsAtEnd (S.left source.new)) }
     ensures within { IfOk result (λ bytes. vec_len bytes ≤ limit_for limit bmp_limit bytes.items) }
     ensures part { OnErr result (TakesPrefix (S.left source.old) (S.left source.new)) }
     ensures failed { IsErrOf result TakeFault.Failed → Rose (S.faults source.old) (S.faults source.new) }
-    ensures too_long { (counts : ℕ) → IsErrOf result (TakeFault.TooLong counts) → IsTooLong limit bmp_limit (S.left source.old) (S.left source.new) counts }
+    ensures too_long { (counts : ℕ) → IsErrOf result (TakeFault.TooLong counts) →
+        IsTooLong limit bmp_limit (S.left source.old) (S.left source.new) counts }
     ensures rest { S.rest source.new ≡ S.rest source.old }
     ensures later { S.faults source.old ≤ S.faults source.new }
 {
@@ -56,7 +58,8 @@ fn limit_of(input: &[u8], limit: usize, bmp_limit: usize) -> usize
 
 // Reads once, puts what was read behind the bytes, and says how many there were; none is the end of the input.
 fn take_more<S: Source>(source: &mut S, bytes: &mut Vec<u8>) -> Result<usize, TakeFault>
-    ensures more { IfOk result (λ count. TakesMore (S.left source.old) (S.left source.new) bytes.old.items bytes.new.items count) }
+    ensures more { IfOk result (λ count.
+        TakesMore (S.left source.old) (S.left source.new) bytes.old.items bytes.new.items count) }
     ensures part { OnErr result (TakesPrefix (S.left source.old) (S.left source.new)) }
     ensures failed { IsErrOf result TakeFault.Failed → Rose (S.faults source.old) (S.faults source.new) }
     ensures not_too_long { (counts : ℕ) → result ≢ Err (TakeFault.TooLong counts) }
@@ -71,31 +74,4 @@ fn take_more<S: Source>(source: &mut S, bytes: &mut Vec<u8>) -> Result<usize, Ta
         return Err(TakeFault::NoMemory);
     }
     Ok(count)
-}
-
-#[cfg(test)]
-mod tests {
-    use super::*;
-    use crate::memory_source::MemorySource;
-    use crate::sure_source::SureSource;
-    use std::test::Fail;
-
-    #[test]
-    fn an_input_is_read_to_its_end_within_its_limit(rt: HostRuntime) -> Result<(), Fail> {
-        let alloc = rt.alloc();
-        let mut label = SureSource::new(alloc, b"label")?;
-        let bytes = read_all(alloc, &mut label, 5, 2)?;
-        assert_eq!(rt; bytes.as_slice(), b"label".as_slice());
-        let mut long = SureSource::new(alloc, b"BM1234")?;
-        assert_eq!(rt;
-            read_all(alloc, &mut long, 5, 4).err(),
-            Some(TakeFault::TooLong(4))
-        );
-        let mut broken = MemorySource::new(alloc, b"label", &[2])?;
-        assert_eq!(rt;
-            read_all(alloc, &mut broken, 5, 5).err(),
-            Some(TakeFault::Failed)
-        );
-        Ok(())
-    }
 }

@@ -56,4 +56,12 @@ impl<const N: usize> Short<N> {
     {
         self.items.get(at).copied()
     }
+
+    /// The bytes.
+    pub fn as_slice(&self) -> &[u8]
+        ensures bytes { result.now ≡ self.now }
+        ensures bounded { length self.now ≤ N }
+    {
+        self.items.as_slice()
+    }
 }

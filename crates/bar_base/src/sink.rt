@@ -8,13 +8,13 @@ use crate::failed::Failed;
 
 /// What bytes are written to, as a file or standard output.
 pub trait Sink {
-    /// The bytes that were written, where the sink tells them.
+    /// The bytes that were written, where they are known.
     ghost held: { Self → Option (List ℕ) };
 
     /// How often it has failed; a count that never falls, of 64 bits.
     ghost faults: { Self → ℕ };
 
-    /// What stands beside the bytes, and no write changes.
+    /// What no write changes but the bytes.
     ghost rest: { Self → Rest };
 
     /// Appends the first bytes of `piece` and says how many: at most its length, and at least 1 where it isn't empty. `Failed`

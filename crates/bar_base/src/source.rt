@@ -8,13 +8,13 @@ use crate::failed::Failed;
 
 /// What bytes are read from, as a file or standard input.
 pub trait Source {
-    /// The bytes that are left, where the source tells them.
+    /// The bytes that are left, where they are known.
     ghost left: { Self → Option (List ℕ) };
 
     /// How often it has failed; a count that never falls, of 64 bits.
     ghost faults: { Self → ℕ };
 
-    /// What stands beside the bytes, and no read changes.
+    /// What no read changes but the bytes.
     ghost rest: { Self → Rest };
 
     /// Puts the next bytes at the front of `into` and says how many, at most its length. For an `into` that isn't empty, 0 is

@@ -1,6 +1,9 @@
-ghost use Rattle.std.specs.Prelude.{Ok, false, ◌||◌, is_ok, is_some, ◌≡◌, ◌<◌, ◌≤◌, ◌⊎◌, None, IfOk, IsErr, length};
+ghost use Rattle.std.specs.Prelude.{◌≡◌, ◌<◌, ◌≤◌, ◌⊎◌, Ok, None, IfOk, IsErr, IsSome, OnOk, OnErr, length};
+ghost use Rattle.std.specs.Option.{option_and_then};
 ghost use Rattle.std.specs.Io.{ReadsAtMost, WritesAtMost};
-ghost use Rattle.bar_base.specs.Faults.{OpenFiles, HasCause, Rose, count_after};
+ghost use Rattle.std.specs.Io.KnownBytes.{ReadConsumes, WriteAppends};
+ghost use Rattle.bar_base.specs.Adapters.{OpenFiles};
+ghost use Rattle.bar_base.specs.Faults.{HasCause, Rose, count_after};
 ghost use Rattle.bar_base.specs.Files.{Lacks};
 
 use crate::failed::Failed;
@@ -9,7 +12,8 @@ use std::io::{Read, Write};
 use std::marker::Model;
 use std::{fs, rt};
 
-/// The files of a system as std knows them, seen as what is open and the two counts of faults. They tell no files.
+/// The files of a system as std knows them, seen as the files that are open and the two counts of faults. Which names have which
+/// bytes is not said, since std does not say it.
 #[derive(Drop)]
 pub struct StdFiles<R: rt::Files> {
     rt: R,
@@ -20,11 +24,11 @@ pub struct StdFiles<R: rt::Files> {
 }
 
 impl<R: rt::Files> Model for StdFiles<R> {
-    ghost Value = { OpenFiles };
+    ghost Value = { OpenFiles R.File };
 
     ghost view = { λ s. record {
-      reads = is_some s.reading;
-      writes = is_some s.writing;
+      reading = s.reading;
+      writing = s.writing;
       faults = record { reading = s.reading_faults; writing = s.writing_faults };
     } };
 }
@@ -32,7 +36,8 @@ impl<R: rt::Files> Model for StdFiles<R> {
 impl<R: rt::Files + Drop> StdFiles<R> {
     /// The files of this runtime, of which none is read or written, with no fault counted.
     pub fn new(rt: R) -> StdFiles<R>
-        ensures no_fault { result ≡ record { reads = false; writes = false; faults = record { reading = 0; writing = 0 } } }
+        ensures fresh { result
+            ≡ record { reading = None; writing = None; faults = record { reading = 0; writing = 0 } } }
     {
         StdFiles {
             rt,
@@ -53,7 +58,11 @@ impl<R: rt::Files + Drop> Files for StdFiles<R> {
 
     /// Opens the file; an error, also where the name is missing, is a fault.
     fn open_read(&mut self, name: &str) -> Result<(), Failed>
-        ensures counted { self.new ≡ record self.old { reads = is_ok result || self.old.reads; faults = record self.old.faults { reading = count_after result self.old.faults.reading } } }
+        ensures opened { OnOk result (IsSome self.new.reading) }
+        ensures kept { OnErr result (self.new.reading ≡ self.old.reading) }
+        ensures writing { self.new.writing ≡ self.old.writing }
+        ensures counted { self.new.faults
+            ≡ record self.old.faults { reading = count_after result self.old.faults.reading } }
         ensures later { self.old.faults.reading ≤ self.new.faults.reading }
         ensures failed { IsErr result → Lacks name.now None ⊎ Rose self.old.faults.reading self.new.faults.reading }
     {
@@ -71,8 +80,12 @@ impl<R: rt::Files + Drop> Files for StdFiles<R> {
 
     /// Reads as the open file does; each of its errors is a fault. Where none is open, it reads nothing.
     fn read(&mut self, into: &mut [u8]) -> Result<usize, Failed>
-        ensures counted { self.new ≡ record self.old { faults = record self.old.faults { reading = count_after result self.old.faults.reading } } }
-        ensures not_open { self.old.reads ≡ false → result ≡ Ok 0 }
+        ensures taken { ReadConsumes (option_and_then R.File.remaining self.old.reading)
+            (option_and_then R.File.remaining self.new.reading) result into.new }
+        ensures not_open { self.old.reading ≡ None → result ≡ Ok 0 }
+        ensures writing { self.new.writing ≡ self.old.writing }
+        ensures counted { self.new.faults
+            ≡ record self.old.faults { reading = count_after result self.old.faults.reading } }
         ensures bound { ReadsAtMost result into.new }
         ensures cause { HasCause self.old.faults.reading self.new.faults.reading result }
     {
@@ -90,7 +103,11 @@ impl<R: rt::Files + Drop> Files for StdFiles<R> {
 
     /// Makes the file, or empties it; an error is a fault.
     fn create(&mut self, name: &str) -> Result<(), Failed>
-        ensures counted { self.new ≡ record self.old { writes = is_ok result || self.old.writes; faults = record self.old.faults { writing = count_after result self.old.faults.writing } } }
+        ensures opened { OnOk result (IsSome self.new.writing) }
+        ensures kept { OnErr result (self.new.writing ≡ self.old.writing) }
+        ensures reading { self.new.reading ≡ self.old.reading }
+        ensures counted { self.new.faults
+            ≡ record self.old.faults { writing = count_after result self.old.faults.writing } }
         ensures cause { HasCause self.old.faults.writing self.new.faults.writing result }
     {
         match fs::create(&self.rt, name) {
@@ -108,8 +125,12 @@ impl<R: rt::Files + Drop> Files for StdFiles<R> {
     /// Writes as the open file does. Each of its errors is a fault, and so is a write that takes nothing of a piece that isn't empty.
     /// Where none is open, the piece goes nowhere.
     fn append(&mut self, piece: &[u8]) -> Result<usize, Failed>
-        ensures counted { self.new ≡ record self.old { faults = record self.old.faults { writing = count_after result self.old.faults.writing } } }
-        ensures not_open { self.old.writes ≡ false → result ≡ Ok (length piece.now) }
+        ensures appended { WriteAppends (option_and_then R.File.contents self.old.writing)
+            (option_and_then R.File.contents self.new.writing) result piece.now }
+        ensures not_open { self.old.writing ≡ None → result ≡ Ok (length piece.now) }
+        ensures reading { self.new.reading ≡ self.old.reading }
+        ensures counted { self.new.faults
+            ≡ record self.old.faults { writing = count_after result self.old.faults.writing } }
         ensures bound { WritesAtMost result piece.now }
         ensures moves { 0 < length piece.now → IfOk result (λ n. 0 < n) }
         ensures cause { HasCause self.old.faults.writing self.new.faults.writing result }
@@ -124,29 +145,5 @@ impl<R: rt::Files + Drop> Files for StdFiles<R> {
                 Err(Failed)
             }
         }
-    }
-}
-
-#[cfg(test)]
-mod tests {
-    use super::*;
-    use std::env;
-    use std::test::Fail;
-
-    #[test]
-    fn a_file_is_made_and_read(rt: HostRuntime) -> Result<(), Fail> {
-        let alloc = rt.alloc();
-        let path = env::temp_dir(&rt)?.join(alloc, "bar_base_std_files.txt")?;
-        let mut files = StdFiles::new(&rt);
-        assert_eq!(rt; files.create(path.as_str()), Ok(()));
-        assert_eq!(rt; files.append(b"label"), Ok(5));
-        assert_eq!(rt; files.open_read(path.as_str()), Ok(()));
-        let mut into = [0; 8];
-        assert_eq!(rt; files.read(&mut into), Ok(5));
-        assert_eq!(rt; &into[..5], b"label".as_slice());
-        assert_eq!(rt; files.read(&mut into), Ok(0));
-        fs::remove_file(&rt, path.as_str())?;
-        assert_eq!(rt; files.open_read(path.as_str()), Err(Failed));
-        Ok(())
     }
 }

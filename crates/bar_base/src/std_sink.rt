@@ -1,5 +1,7 @@
-ghost use Rattle.std.specs.Prelude.{◌≡◌, ◌<◌, ℕ, None, IfOk, length};
+ghost use Rattle.std.specs.Prelude.{◌≡◌, ◌<◌, IfOk, length};
 ghost use Rattle.std.specs.Io.{WritesAtMost};
+ghost use Rattle.std.specs.Io.KnownBytes.{WriteAppends};
+ghost use Rattle.bar_base.specs.Adapters.{Adapted};
 ghost use Rattle.bar_base.specs.Faults.{HasCause, count_after};
 ghost use Rattle.bar_base.specs.Outside.{nothing};
 
@@ -8,7 +10,7 @@ use crate::sink::Sink;
 use std::io::Write;
 use std::marker::Model;
 
-/// A writer of std as a sink, seen as its count of faults. It tells no bytes.
+/// A writer of std as a sink, seen as the writer and a count of faults. It holds what the writer says that it holds.
 #[derive(Drop)]
 pub struct StdSink<W> {
     writer: W,
@@ -16,33 +18,34 @@ pub struct StdSink<W> {
 }
 
 impl<W> Model for StdSink<W> {
-    ghost Value = { ℕ };
+    ghost Value = { Adapted W };
 
-    ghost view = { λ s. s.faults };
+    ghost view = { λ s. record { inner = s.writer; faults = s.faults } };
 }
 
 impl<W: Write + Drop> StdSink<W> {
     /// The writer as a sink, with no fault counted.
     pub fn new(writer: W) -> StdSink<W>
-        ensures no_fault { result ≡ 0 }
+        ensures fresh { result ≡ record { inner = writer; faults = 0 } }
     {
         StdSink { writer, faults: 0 }
     }
 }
 
 impl<W: Write + Drop> Sink for StdSink<W> {
-    ghost held = { λ _. None };
+    ghost held = { λ s. W.contents s.inner };
 
-    ghost faults = { λ faults. faults };
+    ghost faults = { λ s. s.faults };
 
     ghost rest = { λ _. nothing };
 
     /// Writes as the writer does. Each of its errors is a fault, and so is a write that takes nothing of a piece that isn't empty.
     fn write(&mut self, piece: &[u8]) -> Result<usize, Failed>
-        ensures counted { self.new ≡ count_after result self.old }
+        ensures counted { self.new.faults ≡ count_after result self.old.faults }
+        ensures appended { WriteAppends (W.contents self.old.inner) (W.contents self.new.inner) result piece.now }
         ensures bound { WritesAtMost result piece.now }
         ensures moves { 0 < length piece.now → IfOk result (λ n. 0 < n) }
-        ensures cause { HasCause self.old self.new result }
+        ensures cause { HasCause self.old.faults self.new.faults result }
     {
         match self.writer.write(piece) {
             Ok(count) if count > 0 || piece.is_empty() => Ok(count),
@@ -51,25 +54,5 @@ impl<W: Write + Drop> Sink for StdSink<W> {
                 Err(Failed)
             }
         }
-    }
-}
-
-#[cfg(test)]
-mod tests {
-    use super::*;
-    use crate::writing::write_all;
-    use std::test::Fail;
-
-    #[test]
-    fn a_writer_takes_the_bytes_until_it_is_full(rt: HostRuntime) -> Result<(), Fail> {
-        let mut room = [0; 3];
-        {
-            let mut sink = StdSink::new(room.as_mut_slice());
-            assert_eq!(rt; write_all(&mut sink, b"ab"), Ok(()));
-            assert_eq!(rt; write_all(&mut sink, b"cd"), Err(Failed));
-            assert_eq!(rt; sink.write(b""), Ok(0));
-        }
-        assert_eq!(rt; room.as_slice(), b"abc".as_slice());
-        Ok(())
     }
 }

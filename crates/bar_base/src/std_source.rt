@@ -1,5 +1,7 @@
-ghost use Rattle.std.specs.Prelude.{◌≡◌, ℕ, None};
+ghost use Rattle.std.specs.Prelude.{◌≡◌};
 ghost use Rattle.std.specs.Io.{ReadsAtMost};
+ghost use Rattle.std.specs.Io.KnownBytes.{ReadConsumes};
+ghost use Rattle.bar_base.specs.Adapters.{Adapted};
 ghost use Rattle.bar_base.specs.Faults.{HasCause, count_after};
 ghost use Rattle.bar_base.specs.Outside.{nothing};
 
@@ -8,7 +10,7 @@ use crate::source::Source;
 use std::io::Read;
 use std::marker::Model;
 
-/// A reader of std as a source, seen as its count of faults. It tells no bytes.
+/// A reader of std as a source, seen as the reader and a count of faults. What is left is what the reader says.
 #[derive(Drop)]
 pub struct StdSource<R> {
     reader: R,
@@ -16,32 +18,33 @@ pub struct StdSource<R> {
 }
 
 impl<R> Model for StdSource<R> {
-    ghost Value = { ℕ };
+    ghost Value = { Adapted R };
 
-    ghost view = { λ s. s.faults };
+    ghost view = { λ s. record { inner = s.reader; faults = s.faults } };
 }
 
 impl<R: Read + Drop> StdSource<R> {
     /// The reader as a source, with no fault counted.
     pub fn new(reader: R) -> StdSource<R>
-        ensures no_fault { result ≡ 0 }
+        ensures fresh { result ≡ record { inner = reader; faults = 0 } }
     {
         StdSource { reader, faults: 0 }
     }
 }
 
 impl<R: Read + Drop> Source for StdSource<R> {
-    ghost left = { λ _. None };
+    ghost left = { λ s. R.remaining s.inner };
 
-    ghost faults = { λ faults. faults };
+    ghost faults = { λ s. s.faults };
 
     ghost rest = { λ _. nothing };
 
     /// Reads as the reader does; each of its errors is a fault.
     fn read(&mut self, into: &mut [u8]) -> Result<usize, Failed>
-        ensures counted { self.new ≡ count_after result self.old }
+        ensures counted { self.new.faults ≡ count_after result self.old.faults }
+        ensures taken { ReadConsumes (R.remaining self.old.inner) (R.remaining self.new.inner) result into.new }
         ensures bound { ReadsAtMost result into.new }
-        ensures cause { HasCause self.old self.new result }
+        ensures cause { HasCause self.old.faults self.new.faults result }
     {
         match self.reader.read(into) {
             Ok(count) => Ok(count),
@@ -50,33 +53,5 @@ impl<R: Read + Drop> Source for StdSource<R> {
                 Err(Failed)
             }
         }
-    }
-}
-
-#[cfg(test)]
-mod tests {
-    use super::*;
-    use std::io;
-    use std::test::Fail;
-
-    #[derive(Drop)]
-    struct Broken;
-
-    impl Read for Broken {
-        fn read(&mut self, _buf: &mut [u8]) -> io::Result<usize> {
-            Err(io::Error::from(io::ErrorKind::Other))
-        }
-    }
-
-    #[test]
-    fn a_reader_gives_its_bytes_and_its_errors(rt: HostRuntime) -> Result<(), Fail> {
-        let mut source = StdSource::new(b"abc".as_slice());
-        let mut into = [0; 2];
-        assert_eq!(rt; source.read(&mut into), Ok(2));
-        assert_eq!(rt; into.as_slice(), b"ab".as_slice());
-        assert_eq!(rt; source.read(&mut into), Ok(1));
-        assert_eq!(rt; source.read(&mut into), Ok(0));
-        assert_eq!(rt; StdSource::new(Broken).read(&mut into), Err(Failed));
-        Ok(())
     }
 }

@@ -1,6 +1,0 @@
-use Rattle.std.proofs.Common.{take}
-use Rattle.bar_base.specs.StoredFiles.{AllOther}
-use Rattle.bar_base.proofs.stored_files.find.Given as goal
-
-abbrev pub invariant-loop-at : goal.invariant-loop-at
-invariant-loop-at l = AllOther l.name (take l.at l.files)

@@ -1,0 +1,4 @@
+pub mod StoredFiles
+pub mod Kept
+pub mod FoundFiles
+pub mod FilesAfter
