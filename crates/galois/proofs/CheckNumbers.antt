@@ -1,96 +1,106 @@
--- check words by the numbers of their elements
-use Rattle.std.proofs.Common.{◌≡◌, ℕ, ◌+◌, ◌*◌, ◌≤◌, List, [], ◌∷◌, ◌++◌, length, map, refl, ap, sym, ◌∙◌, suc, bit_xor}
-use Rattle.std.proofs.Math.Dec.{eqb}
-use Rattle.std.specs.Prelude.{All}
-use Rattle.std.proofs.lemmas.List.{length-map, map-append}
-use Rattle.std.proofs.lemmas.List.Elements.{All-head, All-tail}
-use Rattle.galois.specs.CheckWord.{weighted_sum, check_sum, IsCheckWord}
-use Rattle.galois.specs.FieldLaws.{same_made, laws_of, equal_of, zero_within, sum_within, product_within, power_within, alpha_within}
-use Rattle.galois.specs.Polynomials.{product_of, power_of, IsPrimitive}
-use Rattle.galois.proofs.CheckWords.{only_check}
+-- from check words over a field to those over the numbers of its elements, and back
+use Rattle.std.proofs.Common.{◌≡◌, ℕ, ◌+◌, ◌-◌, ◌*◌, ◌^◌, ◌<◌, ◌↔◌, Bool, true, List, [], ◌∷◌, ◌++◌, length, drop, map, get_or, bit_xor, refl, sym, ap, ◌∙◌, subst, arith, length-append, length-drop}
+use Rattle.std.specs.Prelude.{All, ◌==◌, if◌then◌else◌}
+use Rattle.std.proofs.lemmas.Bool.Decides.{same_from_decides, nat_tests}
+use Rattle.std.proofs.lemmas.List.{map-append, length-map, take-append-drop}
+use Rattle.std.proofs.lemmas.List.Elements.{All-map, All-drop, All-head, All-tail}
+use Rattle.std.proofs.Math.Seq.{take-append_seam}
+use Rattle.galois.specs.Polynomials.{product_of, power_of}
+use Rattle.galois.specs.CheckWord.{weighted_sum, check_sum, IsCheckWord, IsCheckOf, distance}
+use Rattle.galois.specs.CheckNumbers.{IsCheckWordIn, IsContinuation, apart}
+use Rattle.galois.specs.Field.{IsNumbering}
 
--- a map of elements that keeps sums, products and the powers of alpha
-pub record KeepsOperations {A B : Type 0} (f : A → B) (nought : A) (plus times : A → A → A) (power : ℕ → A) (nought' : B) (plus' times' : B → B → B) (power' : ℕ → B) : Type 0 where
-  pub zeros : f nought ≡ nought'
-  pub sums : (x y : A) → f (plus x y) ≡ plus' (f x) (f y)
-  pub products : (x y : A) → f (times x y) ≡ times' (f x) (f y)
-  pub powers : (k : ℕ) → f (power k) ≡ power' k
+-- The numbers of elements carry the operations of a field to those on numbers.
+pub record HasNumbers {A : Type 0} (bits poly order : ℕ) (value : A → ℕ) (nought : A) (plus times : A → A → A) (power : ℕ → A) : Type 0 where
+  pub size : order + 1 ≡ 2 ^ bits
+  pub numbering : IsNumbering value order
+  pub zero_is : value nought ≡ 0
+  pub sum_is : (a b : A) → value (plus a b) ≡ bit_xor (value a) (value b)
+  pub product_is : (a b : A) → value (times a b) ≡ product_of bits poly (value a) (value b)
+  pub power_is : (k : ℕ) → value (power k) ≡ power_of bits poly 2 k
 
-module _ {A B : Type 0} {f : A → B} {nought : A} {plus times : A → A → A} {power : ℕ → A} {nought' : B} {plus' times' : B → B → B} {power' : ℕ → B}
-    (keeps : KeepsOperations f nought plus times power nought' plus' times' power') where
-  weighted_sum-map : (weight : ℕ → A) (weight' : ℕ → B) → ((m : ℕ) → f (weight m) ≡ weight' m) → (w : List A) →
-      weighted_sum nought' plus' times' weight' (map f w) ≡ f (weighted_sum nought plus times weight w)
+module _ {A : Type 0} {bits poly order : ℕ} {value : A → ℕ} {nought : A} {plus times : A → A → A} {power : ℕ → A}
+    (carries : HasNumbers bits poly order value nought plus times power) where
+  weighted_sum-map : (weight : ℕ → A) (weight' : ℕ → ℕ) → ((m : ℕ) → value (weight m) ≡ weight' m) → (w : List A) →
+      weighted_sum 0 bit_xor (product_of bits poly) weight' (map value w) ≡ value (weighted_sum nought plus times weight w)
   unfolding weighted_sum
-  weighted_sum-map weight weight' weights [] = sym keeps.zeros
+  weighted_sum-map weight weight' weights [] = sym carries.zero_is
   weighted_sum-map weight weight' weights (x ∷ w) =
       rw (
         weighted_sum-map weight weight' weights w,
-        length-map w f,
-        keeps.sums (times x (weight (length w))) (weighted_sum nought plus times weight w),
-        keeps.products x (weight (length w)),
+        length-map w value,
+        carries.sum_is (times x (weight (length w))) (weighted_sum nought plus times weight w),
+        carries.product_is x (weight (length w)),
         weights (length w),
       ) refl
 
-  -- it keeps check sums
-  pub check_sum-map : (w : List A) (k : ℕ) → check_sum nought' plus' times' power' (map f w) k ≡ f (check_sum nought plus times power w k)
+  check_sum-map : (w : List A) (k : ℕ) → check_sum 0 bit_xor (product_of bits poly) (power_of bits poly 2) (map value w) k ≡ value (check_sum nought plus times power w k)
   unfolding check_sum
-  check_sum-map w k = weighted_sum-map (λ place. power (k * place)) (λ place. power' (k * place)) (λ place. keeps.powers (k * place)) w
+  check_sum-map w k = weighted_sum-map (λ place. power (k * place)) (λ place. power_of bits poly 2 (k * place)) (λ place. carries.power_is (k * place)) w
 
-  -- and check words
-  pub IsCheckWord-map : (w : List A) (count : ℕ) → IsCheckWord nought plus times power w count → IsCheckWord nought' plus' times' power' (map f w) count
-  IsCheckWord-map w count is = record { root = λ k low high. check_sum-map w k ∙ ap f (is.root k low high) ∙ keeps.zeros }
+  pub all_numbers : (word : List A) → All (λ number. number < 2 ^ bits) (map value word)
+  all_numbers word = All-map (λ number. number < 2 ^ bits) value word (λ k d below. omega (arith, carries.size, carries.numbering.within (get_or word k d)))
 
-  -- and back, where only nought goes to nought
-  pub IsCheckWord-unmap : ((x : A) → f x ≡ nought' → x ≡ nought) → (w : List A) (count : ℕ) →
-      IsCheckWord nought' plus' times' power' (map f w) count → IsCheckWord nought plus times power w count
-  IsCheckWord-unmap only w count is = record { root = λ k low high. only (check_sum nought plus times power w k) (sym (check_sum-map w k) ∙ is.root k low high) }
+  -- the numbers of a check word are one
+  pub numbers_check : (word : List A) (count : ℕ) → IsCheckWord nought plus times power word count → IsCheckWordIn bits poly (map value word) count
+  numbers_check word count is = record {
+    each = all_numbers word;
+    check = record { root = λ k low high. check_sum-map word k ∙ ap value (is.root k low high) ∙ carries.zero_is };
+  }
 
--- a number up to an order
-record Bounded (order : ℕ) : Type 0 where
-  number : ℕ
-  within : number ≤ order
+  -- and elements are one where their numbers are
+  pub elements_check : (word : List A) (count : ℕ) → IsCheckWordIn bits poly (map value word) count → IsCheckWord nought plus times power word count
+  elements_check word count is = record {
+    root = λ k low high. carries.numbering.same (check_sum nought plus times power word k) nought (sym (check_sum-map word k) ∙ is.check.root k low high ∙ sym carries.zero_is);
+  }
 
--- a list of numbers up to an order as such
-bounded_list : (o : ℕ) (w : List ℕ) → All (λ n. n ≤ o) w → List (Bounded o)
-bounded_list o [] small = []
-bounded_list o (n ∷ w) small = record { number = n; within = All-head (λ n. n ≤ o) n w small } ∷ bounded_list o w (All-tail (λ n. n ≤ o) n w small)
+  -- numbers of so many bits are those of elements
+  pub elements_of : (numbers : List ℕ) → All (λ number. number < 2 ^ bits) numbers → (word : List A) × (map value word ≡ numbers)
+  elements_of [] small = ([], refl)
+  elements_of (n ∷ numbers) small =
+      let first : n < 2 ^ bits = All-head (λ number. number < 2 ^ bits) n numbers small in
+      let (a, is) = carries.numbering.onto n (omega (arith, carries.size)) in
+      let (word, are) = elements_of numbers (All-tail (λ number. number < 2 ^ bits) n numbers small) in
+      (a ∷ word, ap (λ (k : ℕ). k ∷ map value word) is ∙ ap (λ (ks : List ℕ). n ∷ ks) are)
 
-numbers_back : (o : ℕ) (w : List ℕ) (small : All (λ n. n ≤ o) w) → map (λ (b : Bounded o). b.number) (bounded_list o w small) ≡ w
-unfolding bounded_list
-numbers_back o [] small = refl
-numbers_back o (n ∷ w) small = ap (λ l. n ∷ l) (numbers_back o w (All-tail (λ n. n ≤ o) n w small))
+  -- the numbers of a front and of its check elements are the only check word that begins with those of the front
+  pub continued : (front check : List A) → IsCheckOf nought plus times power front check →
+      IsContinuation bits poly (map value front) (length check) (map value front ++ map value check)
+  continued front check is =
+      let whole : map value (front ++ check) ≡ map value front ++ map value check = map-append value front check in
+      record {
+        continues = record {
+          begins = take-append_seam (map value front) (map value check);
+          counted = length-append (map value front) (map value check) ∙ ap (λ (n : ℕ). length (map value front) + n) (length-map check value);
+          check = subst (λ (ns : List ℕ). IsCheckWordIn bits poly ns (length check)) whole (numbers_check (front ++ check) (length check) is.word);
+        };
+        only = λ other more.
+            let n : ℕ = length (map value front) in
+            let (rest, are) = elements_of (drop n other) (All-drop (λ number. number < 2 ^ bits) n other more.check.each) in
+            let split : other ≡ map value front ++ map value rest =
+            sym (take-append-drop n other) ∙ ap (λ (ns : List ℕ). ns ++ drop n other) more.begins ∙ ap (λ (ns : List ℕ). map value front ++ ns) (sym are) in
+            let long : length rest ≡ length check =
+            let e : length (drop n other) ≡ length other - n = length-drop n other in
+            let f : length (map value rest) ≡ length rest = length-map rest value in
+            let g : length (map value rest) ≡ length (drop n other) = ap length are in
+            omega (arith, e, f, g, more.counted) in
+            let same : rest ≡ check =
+            is.only rest long (elements_check (front ++ rest) (length check)
+            (subst (λ (ns : List ℕ). IsCheckWordIn bits poly ns (length check)) (split ∙ sym (map-append value front rest)) more.check)) in
+            split ∙ ap (λ (es : List A). map value front ++ map value es) same;
+      }
 
-length-bounded_list : (o : ℕ) (w : List ℕ) (small : All (λ n. n ≤ o) w) → length (bounded_list o w small) ≡ length w
-unfolding bounded_list
-length-bounded_list o [] small = refl
-length-bounded_list o (n ∷ w) small = ap suc (length-bounded_list o w (All-tail (λ n. n ≤ o) n w small))
+  module _ (equal : A → A → Bool) (decides : (a b : A) → (equal a b ≡ true) ↔ (a ≡ b)) where
+    same_test : (a b : A) → (value a == value b) ≡ equal a b
+    same_test a b =
+        same_from_decides {P = a ≡ b} (value a == value b) (equal a b)
+        (λ is. carries.numbering.same a b (grind (arith, nat_tests)), λ is. grind (arith, nat_tests)) (decides a b)
 
--- Over the field of a primitive polynomial, elements written as numbers: what follows a front is the only such that makes
--- a check word with it.
-pub only_check_numbers : {n o p : ℕ} (h : IsPrimitive n o p) (front u v : List ℕ) → All (λ x. x ≤ o) front → All (λ x. x ≤ o) u → All (λ x. x ≤ o) v →
-    length u ≡ length v → length front + length v ≤ o →
-    IsCheckWord 0 bit_xor (product_of n p) (power_of n p 2) (front ++ u) (length v) →
-    IsCheckWord 0 bit_xor (product_of n p) (power_of n p 2) (front ++ v) (length v) → u ≡ v
-only_check_numbers {n} {o} {p} h front u v front_small u_small v_small same fits is_u is_v =
-    let number : Bounded o → ℕ = λ b. b.number in
-    let make : (k : ℕ) → k ≤ o → Bounded o = λ k w. record { number = k; within = w } in
-    let laws : _ = laws_of h make number (λ b. b.within) (λ b. refl) (λ k w. refl) in
-    let keeps : KeepsOperations number (make 0 (zero_within h))
-    (λ a b. make (bit_xor (number a) (number b)) (sum_within h (number a) (number b) a.within b.within))
-    (λ a b. make (product_of n p (number a) (number b)) (product_within h (number a) (number b) a.within))
-    (λ k. make (power_of n p 2 k) (power_within h 2 k (alpha_within h)))
-    0 bit_xor (product_of n p) (power_of n p 2) =
-    record { zeros = refl; sums = λ x y. refl; products = λ x y. refl; powers = λ k. refl } in
-    let whole : (w : List ℕ) (small : All (λ x. x ≤ o) w) →
-    map number (bounded_list o front front_small ++ bounded_list o w small) ≡ front ++ w =
-    λ w small. rw (map-append number (bounded_list o front front_small) (bounded_list o w small), numbers_back o front front_small, numbers_back o w small) refl in
-    let only_nought : (x : Bounded o) → number x ≡ 0 → x ≡ make 0 (zero_within h) = λ x e. same_made make (number x) 0 x.within (zero_within h) e in
-    let long : length (bounded_list o v v_small) ≡ length v = length-bounded_list o v v_small in
-    let elements : bounded_list o u u_small ≡ bounded_list o v v_small =
-    only_check laws (λ a b. eqb (number a) (number b)) (equal_of make number (λ b. b.within) (λ b. refl))
-    (bounded_list o front front_small) (bounded_list o u u_small) (bounded_list o v v_small)
-    (length-bounded_list o u u_small ∙ same ∙ sym long)
-    (rw (length-bounded_list o front front_small, long) fits)
-    (IsCheckWord-unmap keeps only_nought (bounded_list o front front_small ++ bounded_list o u u_small) (length (bounded_list o v v_small)) (rw (whole u u_small, long) is_u))
-    (IsCheckWord-unmap keeps only_nought (bounded_list o front front_small ++ bounded_list o v v_small) (length (bounded_list o v v_small)) (rw (whole v v_small, long) is_v)) in
-    sym (numbers_back o u u_small) ∙ ap (map number) elements ∙ numbers_back o v v_small
+    -- words are as far apart as their numbers are
+    pub apart-map : (v w : List A) → apart (map value v) (map value w) ≡ distance equal v w
+    unfolding distance
+    apart-map [] w = refl
+    apart-map (x ∷ v) [] = refl
+    apart-map (x ∷ v) (y ∷ w) =
+        ap (λ (b : Bool). (if b then 0 else 1) + apart (map value v) (map value w)) (same_test x y)
+        ∙ ap (λ (n : ℕ). (if equal x y then 0 else 1) + n) (apart-map v w)

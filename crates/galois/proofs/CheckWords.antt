@@ -6,9 +6,9 @@ use Rattle.std.proofs.lemmas.List.Sums.{sum_by-cons}
 use Rattle.std.specs.Bool.{Decides}
 use Rattle.std.proofs.lemmas.Bool.Decides.{same_from_decides}
 use Rattle.galois.specs.Field.{IsField}
-use Rattle.galois.specs.CheckWord.{weighted_sum, check_sum, distance, IsCheckWord}
+use Rattle.galois.specs.CheckWord.{weighted_sum, check_sum, distance, word_sum, IsCheckWord, IsNear}
 use Rattle.std.proofs.Math.Nat.{mul-add, mul-zero, mul-one}
-use Rattle.galois.proofs.Sums.{power_add, add_nought, mul_unit, scaled_weights, weighted_sum-append, weighted_sum-replicate, add_self, raised, raised-power, same_weights, same_from_sum, word_sum, length-word_sum, weighted_sum-word_sum}
+use Rattle.galois.proofs.Sums.{power_add, add_nought, mul_unit, scaled_weights, weighted_sum-append, weighted_sum-replicate, add_self, raised, raised-power, same_weights, same_from_sum, length-word_sum, weighted_sum-word_sum}
 use Rattle.galois.proofs.Moments.{moments_vanish}
 
 -- whether two elements differ, counted in either way
@@ -81,7 +81,7 @@ module _ {A : Type 0} {nought unit : A} {plus times : A → A → A} {inverse : 
         (λ is. same_from_sum laws x y ((decides (plus x y) nought).0 is), λ same. (decides (plus x y) nought).1 (rw same (add_self laws y)))
         (decides x y)
 
-    distance-word_sum : (v w : List A) → length v ≡ length w → count_by (λ x. not (equal x nought)) (word_sum plus v w) ≡ distance equal v w
+    pub distance-word_sum : (v w : List A) → length v ≡ length w → count_by (λ x. not (equal x nought)) (word_sum plus v w) ≡ distance equal v w
     unfolding word_sum distance
     distance-word_sum [] [] same = refl
     distance-word_sum [] (y ∷ w) same = (cc)
@@ -126,3 +126,17 @@ module _ {A : Type 0} {nought unit : A} {plus times : A → A → A} {inverse : 
         append_cancel_left front u v (same_check_word (front ++ u) (front ++ v) (length v)
         (rw (length-append front u, length-append front v) (ap (λ n. length front + n) same))
         (rw (length-append front v) fits) near is_u is_v)
+
+    pub distance_self : (word : List A) → distance equal word word ≡ 0
+    unfolding distance
+    distance_self [] = refl
+    distance_self (x ∷ word) = rw ((decides x x).1 refl, distance_self word) refl
+
+    -- a check word is near itself, and no other is near it
+    pub near_itself : (word : List A) (c : ℕ) → IsCheckWord nought plus times power word c → IsNear nought plus times power equal c word word
+    near_itself word c is = record { long = refl; check = is; near = let e : distance equal word word ≡ 0 = distance_self word in omega (arith, e) }
+
+    pub near_check_word : (word other : List A) (c : ℕ) → length word ≤ order → IsCheckWord nought plus times power word c → IsNear nought plus times power equal c word other → other ≡ word
+    near_check_word word other c fits is near =
+        let n : 2 * distance equal word other ≤ c = near.near in
+        sym (same_check_word word other c (sym near.long) (let e : length other ≡ length word = near.long in omega (arith, e)) (omega (arith, n)) is near.check)

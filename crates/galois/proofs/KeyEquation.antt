@@ -5,6 +5,7 @@ use Rattle.std.specs.Bool.{Decides}
 use Rattle.std.proofs.lemmas.List.Sums.{sum_by-cons}
 use Rattle.galois.specs.Field.{IsField}
 use Rattle.galois.specs.CheckWord.{weighted_sum}
+use Rattle.galois.specs.Locator.{VanishesAt, nowhere, here_too}
 use Rattle.galois.proofs.Sums.{nought_add, mul_nought, nought_mul, mul_unit, mul_comm, mul_assoc, mul_left, mul_cancel, raised, same_weights, sum_of_weights, scaled_weights}
 use Rattle.galois.proofs.Moments.{moments_vanish}
 
@@ -12,11 +13,6 @@ use Rattle.galois.proofs.Moments.{moments_vanish}
 unfoldable pub scaled_word : {A : Type 0} (times : A → A → A) (factor : ℕ → A) → List A → List A
 scaled_word times factor [] = []
 scaled_word times factor (x ∷ word) = times x (factor (length word)) ∷ scaled_word times factor word
-
--- the factor is nought at each place whose element is not
-pub data VanishesAt {A : Type 0} (nought : A) (factor : ℕ → A) : List A → Type 0 where
-  nowhere : VanishesAt nought factor []
-  here_too : {x : A} {word : List A} → (x ≢ nought → factor (length word) ≡ nought) → VanishesAt nought factor word → VanishesAt nought factor (x ∷ word)
 
 module _ {A : Type 0} {nought unit : A} {plus times : A → A → A} {inverse : A → A} {power : ℕ → A} {order : ℕ} (laws : IsField nought unit plus times inverse power order) where
   pub length-scaled_word : (factor : ℕ → A) (w : List A) → length (scaled_word times factor w) ≡ length w

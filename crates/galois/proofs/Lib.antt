@@ -1,7 +1,11 @@
 pub mod CheckNumbers
 pub mod CheckWords
+pub mod Coefficients
 pub mod KeyEquation
+pub mod LocatorRoots
+pub mod Locators
 pub mod Moments
 pub mod Roots
 pub mod StepLemmas
 pub mod Sums
+pub mod TableLaws

@@ -3,7 +3,8 @@ use Rattle.std.proofs.Common.{◌≡◌, ◌≢◌, ℕ, zero, suc, ◌+◌, ◌
 use Rattle.std.specs.Bool.{Decides}
 use Rattle.std.proofs.lemmas.Grind.{reverse_onto}
 use Rattle.galois.specs.Field.{IsField}
-use Rattle.galois.specs.CheckWord.{weighted_sum, coefficients_value}
+use Rattle.galois.specs.CheckWord.{weighted_sum}
+use Rattle.galois.specs.Coefficients.{coefficients_value}
 use Rattle.galois.proofs.Sums.{nought_add, add_nought, add_self, add_again, add_comm, add_assoc, add_left, mul_nought, mul_unit, mul_comm, mul_left, distributes, mul_cancel, sum_nonzero, raised, same_weights, scaled_weights, weighted_sum-append}
 
 -- The quotient of a polynomial by x less r is this of the polynomial without its constant: the values at r of its ends.

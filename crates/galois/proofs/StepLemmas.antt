@@ -1,9 +1,10 @@
 -- what one step of the code computes
-use Rattle.std.proofs.Common.{◌≡◌, ℕ, ◌+◌, ◌*◌, ◌-◌, ◌^◌, ◌%◌, ◌<◌, ◌≤◌, bit_and, bit_xor, arith, ap, sym, ◌∙◌, refl, add-one, one-add}
+use Rattle.std.proofs.Common.{◌≡◌, ℕ, ◌+◌, ◌*◌, ◌-◌, ◌^◌, ◌%◌, ◌<◌, ◌≤◌, zero, suc, bit_and, bit_xor, arith, ap, sym, ◌∙◌, refl, add-one, one-add}
 use Rattle.std.proofs.Math.Nat.{zero-mul, one-mul, mod-eq_of_lt, pow-suc}
 use Rattle.std.proofs.lemmas.Nat.{and_mask, mod-pow-add}
 use Rattle.std.specs.Int.{bit_at}
-use Rattle.std.specs.Int.Bits.{and_zero_r}
+use Rattle.std.specs.Int.Bits.{and_zero_r, xor_zero_l, xor_zero_r}
+use Rattle.std.proofs.lemmas.Nat.Bits.{bit_at_above}
 use Rattle.galois.specs.Polynomials.{product_of, power_of, IsPrimitive}
 use Rattle.galois.specs.XorLaws.{Bit, off, on, bit_of}
 use Rattle.galois.specs.DivisionLaws.{turn}
@@ -32,6 +33,20 @@ multiple-next n p i a b total c v m t e f s = rw (s, f, e, t, add-one) refl
 pub multiple-last : {n o p : ℕ} → IsPrimitive n o p → (i a b total : ℕ) → a ≤ o → i ≡ n → total ≡ multiple n p i b a → total ≡ product_of n p a b
 multiple-last {n} {o} {p} h i a b total aw last t =
     t ∙ ap (λ (k : ℕ). multiple n p k b a) last ∙ sym (product-multiple n p a b (below_of h a aw))
+
+-- the product by x is one step
+multiple_two : (n p k v : ℕ) → multiple n p (suc (suc k)) 2 v ≡ turn n p v
+unfolding multiple turned
+multiple_two n p zero v = ap (λ (x : ℕ). bit_xor x (1 * turn n p v)) (xor_zero_l (0 * v) ∙ zero-mul v) ∙ xor_zero_l (1 * turn n p v) ∙ one-mul (turn n p v)
+multiple_two n p (suc k) v =
+    ap (λ (x : ℕ). bit_xor x (bit_at 2 (suc (suc k)) * turned n p (suc (suc k)) v)) (multiple_two n p k v)
+    ∙ ap (λ (x : ℕ). bit_xor (turn n p v) (x * turned n p (suc (suc k)) v)) (bit_at_above 2 2 (suc (suc k)) (omega arith) (omega arith))
+    ∙ ap (bit_xor (turn n p v)) (zero-mul (turned n p (suc (suc k)) v)) ∙ xor_zero_r (turn n p v)
+
+pub product_two : {n o p : ℕ} → IsPrimitive n o p → (a b total : ℕ) → a ≤ o → b ≡ 2 → total ≡ turn n p a → total ≡ product_of n p a b
+product_two {n} {o} {p} h a b total aw is t =
+    multiple-last h n a b total aw refl
+    (t ∙ sym (ap (λ (c : ℕ). multiple n p n c a) is ∙ ap (λ (k : ℕ). multiple n p k 2 a) (let e : n ≡ suc (suc (n - 2)) = omega (arith, h.two_or_more) in e) ∙ multiple_two n p (n - 2) a))
 
 pub turned-next : (n p i a v w : ℕ) → v ≡ turned n p i a → w ≡ turn n p v → w ≡ turned n p (i + 1) a
 unfolding turned

@@ -1,15 +1,9 @@
 -- identities of a field in which every element is its own negative, and its powers
-use Rattle.std.proofs.Common.{◌≡◌, ◌≢◌, ℕ, zero, suc, ◌+◌, ◌*◌, ◌<◌, sym, ◌∙◌, ap, refl, add-zero, add-one, add-suc, arith, List, [], ◌∷◌, ◌++◌, length, replicate}
-use Rattle.std.proofs.Math.Nat.{suc-mul, zero-mul}
+use Rattle.std.proofs.Common.{◌≡◌, ◌≢◌, ℕ, zero, suc, ◌+◌, ◌-◌, ◌*◌, ◌<◌, inl, inr, sym, ◌∙◌, ap, refl, add-zero, add-one, add-suc, arith, List, [], ◌∷◌, ◌++◌, length, replicate}
+use Rattle.std.proofs.Math.Nat.{suc-mul, zero-mul, eq-zero-or-pos}
 use Rattle.std.proofs.lemmas.List.{length-append}
 use Rattle.galois.specs.Field.{IsField}
-use Rattle.galois.specs.CheckWord.{weighted_sum}
-
--- the elements of two words added place by place
-unfoldable pub word_sum : {A : Type 0} (plus : A → A → A) → List A → List A → List A
-word_sum plus [] _ = []
-word_sum plus (x ∷ v) [] = []
-word_sum plus (x ∷ v) (y ∷ w) = plus x y ∷ word_sum plus v w
+use Rattle.galois.specs.CheckWord.{weighted_sum, word_sum}
 
 -- an element to a power
 unfoldable pub raised : {A : Type 0} (unit : A) (times : A → A → A) → A → ℕ → A
@@ -78,6 +72,11 @@ module _ {A : Type 0} {nought unit : A} {plus times : A → A → A} {inverse : 
       sym (mul_unit a) ∙ ap (times a) (sym (laws.inverts b nonzero)) ∙ sym (laws.mul_assoc a b (inverse b)) ∙
       ap (λ x. times x (inverse b)) h ∙ nought_mul (inverse b)
 
+  -- a factor other than nought is taken off both sides
+  pub cancel_right : (a b d : A) → d ≢ nought → times a d ≡ times b d → a ≡ b
+  cancel_right a b d nonzero same =
+      same_from_sum a b (mul_cancel (plus a b) d nonzero (distributes_right a b d ∙ ap (λ x. plus x (times b d)) same ∙ add_self (times b d)))
+
   pub product_nonzero : (a b : A) → a ≢ nought → b ≢ nought → times a b ≢ nought
   product_nonzero a b na nb h = na (mul_cancel a b nb h)
 
@@ -89,6 +88,24 @@ module _ {A : Type 0} {nought unit : A} {plus times : A → A → A} {inverse : 
   power_add i (suc j) =
       let next : (k : ℕ) → power (suc k) ≡ times (power k) (power 1) = λ k. rw (← add-one k) (laws.power_next k) in
       rw (add-suc i j, next (i + j), next j, power_add i j) (laws.mul_assoc (power i) (power j) (power 1))
+
+  -- the powers come round after as many as there are
+  pub power_order : power order ≡ unit
+  power_order =
+      let (k, less, is) = laws.nonzero_power (power order) (laws.power_nonzero order) in
+      elim (eq-zero-or-pos k) [
+        | inl none ↦ sym is ∙ ap power none ∙ laws.power_zero
+        | inr some ↦
+            let split : order - k + k ≡ order = omega arith in
+            let one : power (order - k) ≡ unit =
+            cancel_right (power (order - k)) unit (power k) (laws.power_nonzero k)
+            (sym (power_add (order - k) k) ∙ ap power split ∙ sym is ∙ sym (laws.mul_one (power k))) in
+            let none : order - k ≡ 0 = laws.powers_distinct (order - k) 0 (omega arith) (omega arith) (one ∙ sym laws.power_zero) in
+            absurd (omega arith)
+      ]
+
+  pub power_round : (k : ℕ) → power (order + k) ≡ power k
+  power_round k = power_add order k ∙ ap (λ x. times x (power k)) power_order ∙ laws.mul_one (power k)
 
   pub raised-power : (k m : ℕ) → power (k * m) ≡ raised unit times (power m) k
   unfolding raised

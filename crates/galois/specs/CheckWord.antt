@@ -23,13 +23,21 @@ pub record IsCheckOf {A : Type 0} (nought : A) (plus times : A → A → A) (pow
   pub word : IsCheckWord nought plus times power (front ++ check) (length check)
   pub only : (other : List A) → length other ≡ length check → IsCheckWord nought plus times power (front ++ other) (length check) → other ≡ check
 
--- The value at `x` of the polynomial with these coefficients, the lowest first.
-unfoldable pub coefficients_value : {A : Type 0} (nought : A) (plus times : A → A → A) → List A → A → A
-coefficients_value nought plus times [] x = nought
-coefficients_value nought plus times (a ∷ coefficients) x = plus a (times x (coefficients_value nought plus times coefficients x))
-
 -- The distance of two words of one length: the number of places at which they differ.
 unfoldable pub distance : {A : Type 0} (equal : A → A → Bool) → List A → List A → ℕ
 distance equal [] _ = 0
 distance equal (x ∷ word) [] = 0
 distance equal (x ∷ word) (y ∷ other) = (if equal x y then 0 else 1) + distance equal word other
+
+-- The elements of two words added place by place.
+unfoldable pub word_sum : {A : Type 0} (plus : A → A → A) → List A → List A → List A
+word_sum plus [] _ = []
+word_sum plus (x ∷ v) [] = []
+word_sum plus (x ∷ v) (y ∷ w) = plus x y ∷ word_sum plus v w
+
+-- A check word of the word's length that differs from it at no more places than half of its check elements
+-- (ISO/IEC 24778, Reed-Solomon error correction).
+pub record IsNear {A : Type 0} (nought : A) (plus times : A → A → A) (power : ℕ → A) (equal : A → A → Bool) (count : ℕ) (word other : List A) : Type 0 where
+  pub long : length other ≡ length word
+  pub check : IsCheckWord nought plus times power other count
+  pub near : 2 * distance equal word other ≤ count

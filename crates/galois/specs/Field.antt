@@ -17,6 +17,7 @@ pub record IsField {A : Type 0} (nought unit : A) (plus times : A → A → A) (
   pub power_next : (k : ℕ) → power (k + 1) ≡ times (power k) (power 1)
   pub power_nonzero : (k : ℕ) → power k ≢ nought
   pub powers_distinct : (i j : ℕ) → i < order → j < order → power i ≡ power j → i ≡ j
+  pub nonzero_power : (a : A) → a ≢ nought → (k : ℕ) × (k < order) × (power k ≡ a)
 
 -- the number of bits of an element, and the greatest number of an element
 pub record IsFieldSize (bits order : ℕ) : Type 0 where

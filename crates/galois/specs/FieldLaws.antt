@@ -9,7 +9,7 @@ use Rattle.std.specs.Int.Bits.{xor_assoc, xor_self, xor_zero_l}
 use Rattle.galois.specs.Polynomials.{product_of, power_of, IsPrimitive}
 use Rattle.galois.specs.Field.{IsField, IsFieldSize, IsNumbering}
 use Rattle.galois.specs.MultipleLaws.{one_below, product_below, product-one, product-sum, product_comm, product_assoc}
-use Rattle.galois.specs.PowerLaws.{two_below, power-zero, power-next, power-one, order_positive, power-turned, power_below, turned-nonzero, turned_distinct, product-inverse}
+use Rattle.galois.specs.PowerLaws.{two_below, power-zero, power-next, power-one, order_positive, power-turned, power_below, turned-nonzero, turned_distinct, product-inverse, is_power}
 
 pub below_of : {n o p : ℕ} → IsPrimitive n o p → (a : ℕ) → a ≤ o → a < 2 ^ n
 below_of h a within = omega (arith, h.order_is)
@@ -99,4 +99,7 @@ laws_of {A} {n} {o} {p} h make number within back forth =
       powers_distinct = λ i j ib jb e. turned_distinct h i j ib jb
           (sym (power-turned h i) ∙ sym (forth (power_of n p 2 i) (power_within h 2 i (alpha_within h))) ∙ ap number e
           ∙ forth (power_of n p 2 j) (power_within h 2 j (alpha_within h)) ∙ power-turned h j);
+      nonzero_power = λ a some.
+          let (k, less, is) = is_power h (number a) (positive a some) (below a) in
+          (k, less, same _ _ _ (within a) (power-turned h k ∙ is) ∙ back a);
     }

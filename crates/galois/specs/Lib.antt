@@ -1,6 +1,10 @@
 pub mod CheckWord
+pub mod CheckNumbers
+pub mod Coefficients
+pub mod Locator
 pub mod Field
 pub mod Polynomials
+pub mod Tables
 pub mod XorLaws
 pub mod DivisionLaws
 pub mod MultipleLaws

@@ -37,7 +37,7 @@ fn times_x<P: Poly>(number: u32) -> u32
     doubled ^ masked(P::POLY, coefficient(doubled, P::BITS))
 }
 
-// The product: the multiples of `a` by the powers of x in `b`, summed.
+// The product: the multiples of `a` by the powers of x in `b`, summed. By x alone it is one step.
 #[inline]
 pub(crate) fn product<P: Poly>(a: u32, b: u32) -> u32
     requires left { a ≤ P.ORDER }
@@ -45,6 +45,9 @@ pub(crate) fn product<P: Poly>(a: u32, b: u32) -> u32
     ensures value { result ≡ product_of P.BITS P.POLY a b }
     ensures within { result ≤ P.ORDER }
 {
+    if b == 2 {
+        return times_x::<P>(a);
+    }
     let mut total = 0;
     let mut multiple = a;
     for i in 0..P::BITS {

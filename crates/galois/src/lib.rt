@@ -6,10 +6,12 @@ mod arithmetic;
 mod element;
 mod field;
 mod polynomial;
+mod tables;
 
 pub use element::{Gf, Gf16, Gf64, Gf256, Gf1024, Gf4096};
 pub use field::Field;
 pub use polynomial::{P16, P64, P256, P1024, P4096, Poly};
+pub use tables::{Tables, element_of};
 
 #[cfg(test)]
 mod tests;

@@ -1,7 +1,7 @@
 use Rattle.std.proofs.Common.{arith, refl}
 use Rattle.galois.specs.FieldLaws.{product_within}
 use Rattle.galois.specs.MultipleLaws.{turned, multiple}
-use Rattle.galois.proofs.StepLemmas.{multiple-next, multiple-last, turned-next}
+use Rattle.galois.proofs.StepLemmas.{multiple-next, multiple-last, turned-next, product_two}
 use Rattle.galois.proofs.arithmetic.product.Goals as goal
 
 pub loop-i-init : goal.loop-i-init
@@ -25,3 +25,7 @@ returns-clause-value g c =
 pub returns-clause-within : goal.returns-clause-within
 returns-clause-within g c =
     rw (returns-clause-value g c) (product_within g.P.Poly.primitive c.args.a c.args.b c.requires.left)
+
+pub returns-then-b-eq2-clause-value : goal.returns-then-b-eq2-clause-value
+returns-then-b-eq2-clause-value g c =
+    product_two g.P.Poly.primitive c.args.a c.args.b c.times_x.result c.requires.left c.if-b-eq2.true c.times_x.ensures.value
