@@ -1,2 +1,3 @@
-pub mod Chain
-pub mod Expansion
+pub mod DivisionLemmas
+pub mod GeneratorLemmas
+pub mod RowLemmas

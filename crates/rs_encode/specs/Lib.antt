@@ -1,1 +1,3 @@
-pub mod Registers
+pub mod Generator
+pub mod Division
+pub mod Rows

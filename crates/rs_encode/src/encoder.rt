@@ -1,22 +1,62 @@
 //! The check elements of a front.
 
-ghost use Rattle.std.specs.Prelude.{◌+◌, ◌≤◌, length};
+ghost use Rattle.std.specs.Prelude.{◌≡◌, ◌<◌, ◌≤◌, ◌+◌, length, replicate};
 ghost use Rattle.galois.specs.CheckWord.{IsCheckOf};
+ghost use Rattle.rs_encode.specs.Division.{Completes};
 
-use crate::registers::{divide, expand};
-use galois::Field;
+use crate::division::{clear, divide};
+use crate::generator::write_generator;
+use crate::rows::divide_by_rows;
+use galois::{Field, Tables};
+
+/// The longest generator polynomial that is divided by rows.
+const LONGEST_ROW: usize = 512;
+
+/// The shortest word that pays for the rows.
+const SHORTEST_WORD: usize = 200;
+
+// Leaves in the registers, which are zero before, the check elements of a word, with the generator's exponents in a
+// list that is lent.
+fn write_in<F: Field>(tables: &Tables<F>, front: &[F], check: &mut [F], room: &mut [u16])
+    requires some { 0 < length check.old }
+    requires few { length check.old < F.ORDER }
+    requires zeros { check.old ≡ replicate (length check.old) F.nought }
+    requires room { length check.old ≤ length room.old }
+    ensures { Completes F.nought F.plus F.times F.power front.now check.new }
+{
+    let exponents = &mut room[..check.len()];
+    write_generator(tables, exponents);
+    if check.len() <= LONGEST_ROW && front.len() >= SHORTEST_WORD {
+        divide_by_rows(tables, exponents, check, front);
+    } else {
+        divide(tables, exponents, check, front);
+    }
+}
+
+// The same with a list of its own.
+fn write_check<F: Field>(front: &[F], check: &mut [F])
+    requires some { 0 < length check.old }
+    requires few { length check.old < F.ORDER }
+    requires zeros { check.old ≡ replicate (length check.old) F.nought }
+    ensures { Completes F.nought F.plus F.times F.power front.now check.new }
+{
+    let mut exponents = [0; 4095];
+    write_in(&Tables::new(), front, check, &mut exponents);
+}
 
 /// Writes the check elements of `front` into `check`, as many as it has room for. Then `front` followed by `check`,
 /// read as a polynomial with the highest coefficient first, has the roots alpha, alpha to the power 2 and so on up to
-/// the number of check elements, and no other check elements give that. (ISO/IEC 24778, Reed-Solomon error
-/// correction.)
+/// the number of check elements, and no other check elements give that. It takes no memory. (ISO/IEC 24778,
+/// Reed-Solomon error correction.)
 ///
 /// Together they may have as many elements as the field has powers of alpha.
 pub fn encode<F: Field>(front: &[F], check: &mut [F])
     requires { length front.now + length check.old ≤ F.ORDER }
     ensures { IsCheckOf F.nought F.plus F.times F.power front.now check.new }
 {
-    divide(front, check);
-    expand(check);
-    check.reverse();
+    clear(check);
+    if front.is_empty() || check.is_empty() {
+        return;
+    }
+    write_check(front, check);
 }

@@ -1,9 +1,13 @@
-//! Check words of Reed-Solomon codes over any field.
+//! Check elements of Reed-Solomon codes over any field, and over the numbers of its elements.
 #![tactic(auto)]
 
+mod division;
 mod encoder;
-mod registers;
+mod generator;
+mod numbers;
+mod rows;
 #[cfg(test)]
 mod tests;
 
 pub use encoder::encode;
+pub use numbers::encode_numbers;

@@ -1,29 +1,49 @@
-//! Check elements that long division by the generator polynomial gives, and those of worked symbols.
+//! Check elements of worked symbols, and those that another program found by long division.
 
-use crate::encode;
-use galois::{Field, Gf16, Gf64, Gf256, Gf1024, Gf4096};
+use crate::{encode, encode_numbers};
+use galois::{Field, Gf256, Gf1024, Gf4096, P16, P64, P256};
 use std::alloc::Global;
 use std::process::Abort;
 use std::test::Fail;
 
-// The numbers of the check elements behind a front that is given by numbers.
+#[test]
+fn worked_words(rt: HostRuntime) {
+    let mut rune = [0; 5];
+    encode_numbers::<P16>(&[5, 6], &mut rune);
+    assert_eq!(rt; rune, [3, 2, 11, 11, 7]);
+    let mut mode = [0; 6];
+    encode_numbers::<P16>(&[0, 0, 0, 9], &mut mode);
+    assert_eq!(rt; mode, [10, 13, 8, 6, 5, 6]);
+    let mut symbol = [0; 7];
+    encode_numbers::<P64>(&[9, 50, 1, 41, 47, 2, 39, 37, 1, 27], &mut symbol);
+    assert_eq!(rt; symbol, [38, 50, 8, 16, 10, 20, 40]);
+}
+
+#[test]
+fn zeros_on_the_way(rt: HostRuntime) {
+    let mut check = [0; 4];
+    encode_numbers::<P256>(&[0, 0, 7, 0, 0, 0, 9, 0], &mut check);
+    assert_eq!(rt; check, [86, 190, 177, 161]);
+}
+
+// The numbers of the check elements behind the elements 3, 10, 17 and so on, by the lowest bits of each number.
 fn check_numbers<F: Field, R: Abort>(
     rt: &R,
     alloc: Global,
-    front: &[u32],
+    length: u32,
     count: usize,
 ) -> Result<Vec<u32>, Fail> {
-    let mut elements: Vec<F> = Vec::new(alloc);
-    for number in front {
-        elements.push(F::from_number(*number).ok_or("above the order")?)?;
+    let mut front: Vec<F> = Vec::new(alloc);
+    for place in 0..length.min(4096) {
+        front.push(F::from_number((7 * place + 3) & F::ORDER).ok_or("above the order")?)?;
     }
     let mut check: Vec<F> = Vec::new(alloc);
     for _place in 0..count {
         check.push(F::zero())?;
     }
-    assert!(rt; elements.len() <= 4096 && check.len() <= 4096);
-    assert!(rt; elements.len() + check.len() <= F::ORDER as usize);
-    encode(&elements, &mut check);
+    assert!(rt; front.len() <= 4096 && check.len() <= 4096);
+    assert!(rt; front.len() + check.len() <= F::ORDER as usize);
+    encode(&front, &mut check);
     let mut numbers = Vec::new(alloc);
     for element in &check {
         numbers.push(element.number())?;
@@ -31,41 +51,19 @@ fn check_numbers<F: Field, R: Abort>(
     Ok(numbers)
 }
 
-// The numbers 3, 10, 17 and so on, each less the number of elements as often as it goes.
-fn front_numbers(alloc: Global, count: u32, elements: u32) -> Result<Vec<u32>, Fail> {
-    let mut numbers = Vec::new(alloc);
-    for place in 0..count.min(4096) {
-        numbers.push((7 * place + 3) % elements.max(1))?;
-    }
-    Ok(numbers)
-}
-
 #[test]
-fn worked_words(rt: HostRuntime) -> Result<(), Fail> {
-    let rune = check_numbers::<Gf16, HostRuntime>(&rt, rt.alloc(), &[5, 6], 5)?;
-    assert_eq!(rt; rune.as_slice(), [3, 2, 11, 11, 7].as_slice());
-    let mode = check_numbers::<Gf16, HostRuntime>(&rt, rt.alloc(), &[0, 0, 0, 9], 6)?;
-    assert_eq!(rt; mode.as_slice(), [10, 13, 8, 6, 5, 6].as_slice());
-    let front = [9, 50, 1, 41, 47, 2, 39, 37, 1, 27];
-    let symbol = check_numbers::<Gf64, HostRuntime>(&rt, rt.alloc(), &front, 7)?;
-    assert_eq!(rt; symbol.as_slice(), [38, 50, 8, 16, 10, 20, 40].as_slice());
-    let none = check_numbers::<Gf16, HostRuntime>(&rt, rt.alloc(), &[5, 6], 0)?;
-    assert!(rt; none.is_empty());
-    Ok(())
-}
-
-#[test]
-fn full_words(rt: HostRuntime) -> Result<(), Fail> {
-    let front = front_numbers(rt.alloc(), 200, 256)?;
-    let check = check_numbers::<Gf256, HostRuntime>(&rt, rt.alloc(), &front, 55)?;
+fn long_words(rt: HostRuntime) -> Result<(), Fail> {
+    let check = check_numbers::<Gf256, HostRuntime>(&rt, rt.alloc(), 200, 55)?;
     assert!(rt; check.starts_with(&[116, 248, 230, 101]) && check.ends_with(&[26, 127, 230, 252]));
-    let front = front_numbers(rt.alloc(), 800, 1024)?;
-    let check = check_numbers::<Gf1024, HostRuntime>(&rt, rt.alloc(), &front, 223)?;
-    assert!(rt; check.starts_with(&[522, 610, 116, 942]) && check.ends_with(&[26, 347, 381, 17]));
-    let front = front_numbers(rt.alloc(), 1278, 4096)?;
-    let check = check_numbers::<Gf4096, HostRuntime>(&rt, rt.alloc(), &front, 386)?;
+    let check = check_numbers::<Gf1024, HostRuntime>(&rt, rt.alloc(), 199, 10)?;
+    assert!(rt; check.starts_with(&[820, 624, 404, 646]) && check.ends_with(&[720, 292, 377, 127]));
+    let check = check_numbers::<Gf4096, HostRuntime>(&rt, rt.alloc(), 1278, 386)?;
     assert!(rt;
         check.starts_with(&[3104, 501, 3802, 225]) && check.ends_with(&[2842, 1170, 283, 3467])
+    );
+    let check = check_numbers::<Gf4096, HostRuntime>(&rt, rt.alloc(), 100, 600)?;
+    assert!(rt;
+        check.starts_with(&[902, 2370, 2933, 3484]) && check.ends_with(&[911, 1001, 854, 1188])
     );
     Ok(())
 }
