@@ -1,0 +1,13 @@
+pub mod Loops
+pub mod Slices
+pub mod ListSums
+pub mod Euclid
+pub mod EuclidInPlace
+pub mod Terms
+pub mod Places
+pub mod Values
+pub mod Mending
+pub mod FedSyndromes
+pub mod Nearest
+pub mod Distances
+pub mod Outcomes

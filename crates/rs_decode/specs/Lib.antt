@@ -1,0 +1,5 @@
+pub mod Nearness
+pub mod Euclid
+pub mod Search
+pub mod Values
+pub mod Syndromes

@@ -1,0 +1,41 @@
+//! The syndromes of a word.
+
+ghost use Rattle.std.specs.Prelude.{◌≡◌, ◌≤◌, ◌<◌, ◌↔◌, ℕ, true, length, slice_index_or};
+ghost use Rattle.rs_decode.specs.Syndromes.{AreSyndromes, AreFed};
+
+use crate::lists::clear;
+use galois::{Field, Tables};
+
+// Feeds one element more to each syndrome.
+fn feed<F: Field>(tables: &Tables<F>, syndromes: &mut [F], element: F)
+    requires { length syndromes.old ≤ F.ORDER }
+    ensures { AreFed F.nought F.plus F.times F.power element syndromes.old syndromes.new }
+{
+    for k in 0..syndromes.len() {
+        syndromes[k] = element.add(tables.times_power(syndromes[k], k + 1));
+    }
+}
+
+/// The syndromes of the word, as many as there is room for.
+pub fn find_syndromes<F: Field>(tables: &Tables<F>, word: &[F], syndromes: &mut [F])
+    requires { length syndromes.old ≤ F.ORDER }
+    ensures { AreSyndromes F.nought F.plus F.times F.power word.now syndromes.new }
+{
+    clear(syndromes);
+    for element in word {
+        feed(tables, syndromes, *element);
+    }
+}
+
+/// Whether all elements are zero.
+pub fn are_zero<F: Field>(list: &[F]) -> bool
+    ensures { (result ≡ true) ↔ ((k : ℕ) → k < length list.now → slice_index_or list.now k F.nought ≡ F.nought) }
+{
+    let zero = F::zero();
+    for element in list {
+        if *element != zero {
+            return false;
+        }
+    }
+    true
+}
