@@ -1,46 +1,36 @@
 -- A path, code by code: where it stands in the elements, and that it has one list of bits.
-use Rattle.std.proofs.Common.{◌≡◌, ℕ, ◌+◌, ◌<◌, ◌≤◌, Bool, true, false, List, [], ◌∷◌, ◌++◌, length, drop, slice_get, Some, refl, sym, ap, subst, ◌∙◌, arith}
-use Rattle.std.proofs.lemmas.List.{append_assoc, append-nil, drop_more, drop_all, drop_at, drop-drop, length-append, length-drop}
-use Rattle.std.proofs.lemmas.Option.{get_or_from_slice_get}
+use Rattle.std.proofs.Common.{◌≡◌, ℕ, ◌+◌, ◌-◌, ◌<◌, ◌≤◌, Bool, true, false, List, [], ◌∷◌, ◌++◌, length, drop, take, get_or, refl, sym, ap, subst, ◌∙◌, arith}
+use Rattle.std.proofs.lemmas.List.{append_assoc, append-nil, drop_more, drop_all, drop_at, take_at, drop-drop, length-append, length-drop}
 use Rattle.bar_base.specs.declared.element.Element.{Element}
 use Rattle.aztec_modes.specs.declared.mode.Mode.{Mode}
 use Rattle.aztec_modes.specs.declared.mode.Mode.TheVariants.{Upper, Lower, Mixed, Punct, Digit}
 use Rattle.aztec_modes.specs.declared.code.Code.{Code}
 use Rattle.aztec_modes.specs.declared.code.Code.TheVariants.{Latch, Plain, Shift, Fnc1, Eci, Run}
 use Rattle.aztec_modes.specs.declared.table.Symbol.TheVariants.{LatchTo, ShiftTo}
-use Rattle.aztec_modes.specs.Codes.{symbol_of, width_of}
-use Rattle.aztec_modes.specs.CodeBits.{bits_of}
-use Rattle.aztec_modes.specs.Numbers.{next_of, count_of, cost_of, flag_width}
-use Rattle.aztec_modes.specs.Entry.{Entry, StandsBefore, latch, shift}
+use Rattle.aztec_modes.specs.Codes.{table_symbol, mode_width}
+use Rattle.aztec_modes.specs.Entry.{Entry, SpellsFront, code_bits, code_next, code_count, code_length, flag_width, latch_number, shift_number}
 use Rattle.aztec_modes.specs.Spelling.{Spells, nothing, onward, IsPathOf}
-use Rattle.aztec_modes.proofs.NumberLaws.{there}
-use Rattle.aztec_modes.proofs.EntryLaws.{entry_len, entry_spelled, entry_next}
-use Rattle.aztec_modes.proofs.BitLaws.{entry_bits, entry_same}
+use Rattle.aztec_modes.proofs.TableFacts.{number_few}
+use Rattle.aztec_modes.proofs.EntryLaws.{entry_len, entry_spelled, entry_same}
 use Rattle.aztec_modes.proofs.OneReading.{one_reading}
 
-latch_number-there : {mode to : Mode} {bits : List Bool} {spelled : List Element} {next : Mode} → Entry mode (Latch to) bits spelled next
-    → (number : ℕ) × (number < 32) × (symbol_of mode number ≡ LatchTo to)
-latch_number-there {mode} {to} (latch number is) = (number, there mode number (LatchTo to) is (λ h. absurd (cc)), is)
-
 -- The table has the latch of a path.
-pub latch_there : {mode to : Mode} {elements : List Element} → StandsBefore mode (Latch to) elements
-    → (number : ℕ) × (number < 32) × (symbol_of mode number ≡ LatchTo to)
-latch_there stands = latch_number-there stands.entry
-
-shift_number-there : {mode to : Mode} {second : ℕ} {bits : List Bool} {spelled : List Element} {next : Mode} → Entry mode (Shift to second) bits spelled next
-    → (number : ℕ) × (number < 32) × (symbol_of mode number ≡ ShiftTo to)
-shift_number-there {mode} {to} (shift number is data_is) = (number, there mode number (ShiftTo to) is (λ h. absurd (cc)), is)
+pub latch_there : {mode to : Mode} {elements : List Element} → SpellsFront mode (Latch to) elements
+    → (number : ℕ) × (number < 32) × (table_symbol mode number ≡ LatchTo to)
+latch_there {mode} {to} fits =
+    (latch_number mode to, number_few mode (latch_number mode to) (LatchTo to) fits.entry.has (λ h. absurd (cc)), fits.entry.has)
 
 -- The table has the shift of a path.
-pub shift_there : {mode to : Mode} {second : ℕ} {elements : List Element} → StandsBefore mode (Shift to second) elements
-    → (number : ℕ) × (number < 32) × (symbol_of mode number ≡ ShiftTo to)
-shift_there stands = shift_number-there stands.entry
+pub shift_there : {mode to : Mode} {second : ℕ} {elements : List Element} → SpellsFront mode (Shift to second) elements
+    → (number : ℕ) × (number < 32) × (table_symbol mode number ≡ ShiftTo to)
+shift_there {mode} {to} fits =
+    (shift_number mode to, number_few mode (shift_number mode to) (ShiftTo to) fits.entry.has (λ h. absurd (cc)), fits.entry.has)
 
 -- What a code spells is there.
-pub count_there : {mode : Mode} {code : Code} (elements : List Element) (at : ℕ) → at ≤ length elements → StandsBefore mode code (drop at elements)
-    → at + count_of mode code ≤ length elements
-count_there elements at within stands =
-    omega (arith, length-drop at elements, ap length stands.splits, length-append stands.spelled stands.rest, entry_spelled stands.entry)
+pub count_there : {mode : Mode} {code : Code} (elements : List Element) (at : ℕ) → at ≤ length elements → SpellsFront mode code (drop at elements)
+    → at + code_count mode code ≤ length elements
+count_there elements at within fits =
+    omega (arith, length-drop at elements, ap length fits.splits, length-append fits.spelled fits.rest, entry_spelled fits.entry)
 
 -- The first code of a path, and the rest.
 pub record FirstCode (mode : Mode) (code : Code) (codes : List Code) (bits : List Bool) (elements : List Element) : Type 0 where
@@ -76,8 +66,8 @@ spells_once (code ∷ codes) {mode} {bits} {bits'} {elements} former latter =
     (subst (λ (m : Mode). Spells m codes b.rest a.others) (sym alike.3) (subst (λ (es : List Element). Spells b.next codes b.rest es) (sym alike.2) b.rest_spells)) in
     a.bits_split ∙ ap (λ (xs : List Bool). xs ++ a.rest) alike.0 ∙ ap (λ (xs : List Bool). b.first ++ xs) rest ∙ sym b.bits_split
 
-width_positive : (mode : Mode) → 1 ≤ width_of mode
-unfolding width_of
+width_positive : (mode : Mode) → 1 ≤ mode_width mode
+unfolding mode_width
 width_positive Upper = omega arith
 width_positive Lower = omega arith
 width_positive Mixed = omega arith
@@ -93,8 +83,8 @@ flag_width-positive Punct = omega arith
 flag_width-positive Digit = omega arith
 
 -- Each code has bits.
-pub cost_positive : (mode : Mode) (code : Code) → 1 ≤ cost_of mode code
-unfolding cost_of
+pub cost_positive : (mode : Mode) (code : Code) → 1 ≤ code_length mode code
+unfolding code_length
 cost_positive mode (Latch to) = width_positive mode
 cost_positive mode (Plain number) = width_positive mode
 cost_positive mode (Shift to number) = omega (arith, width_positive mode)
@@ -112,16 +102,16 @@ no_codes_spell : {mode : Mode} {bits : List Bool} {elements : List Element} → 
 no_codes_spell nothing = refl
 
 -- No other path has the bits of a path.
-pub path_told : (codes codes' : List Code) {mode : Mode} {bits : List Bool} {elements elements' : List Element}
+pub path_only : (codes codes' : List Code) {mode : Mode} {bits : List Bool} {elements elements' : List Element}
     → Spells mode codes bits elements → Spells mode codes' bits elements' → (codes' ≡ codes) × (elements' ≡ elements)
-path_told [] [] former latter = (refl, no_codes_spell latter ∙ sym (no_codes_spell former))
-path_told [] (code ∷ codes') former latter = absurd (codes_have_bits latter (no_codes former))
-path_told (code ∷ codes) [] former latter = absurd (codes_have_bits former (no_codes latter))
-path_told (code ∷ codes) (code' ∷ codes') {mode} {bits} {elements} {elements'} former latter =
+path_only [] [] former latter = (refl, no_codes_spell latter ∙ sym (no_codes_spell former))
+path_only [] (code ∷ codes') former latter = absurd (codes_have_bits latter (no_codes former))
+path_only (code ∷ codes) [] former latter = absurd (codes_have_bits former (no_codes latter))
+path_only (code ∷ codes) (code' ∷ codes') {mode} {bits} {elements} {elements'} former latter =
     let a = first_code former in
     let b = first_code latter in
     let alike = one_reading a.rest b.rest a.entry b.entry (sym a.bits_split ∙ b.bits_split) in
-    let onward = path_told codes codes' a.rest_spells
+    let onward = path_only codes codes' a.rest_spells
     (subst (λ (m : Mode). Spells m codes' a.rest b.others) (sym alike.3) (subst (λ (xs : List Bool). Spells b.next codes' xs b.others) (sym alike.4) b.rest_spells)) in (
       ap (λ (c : Code). c ∷ codes') (sym alike.0) ∙ ap (λ (cs : List Code). code ∷ cs) onward.0,
       b.elements_split ∙ ap (λ (es : List Element). es ++ b.others) (sym alike.2) ∙ ap (λ (es : List Element). a.spelled ++ es) onward.1 ∙ sym a.elements_split,
@@ -144,32 +134,40 @@ path_ends codes elements bits mode at place past path =
     subst (λ (cs : List Code). Spells mode cs path.rest (drop at elements)) (drop_all place codes past) path.ahead in
     subst (λ (xs : List Bool). Spells Upper codes xs elements) (ap (λ (xs : List Bool). bits ++ xs) (no_codes none) ∙ append-nil bits) path.whole
 
-module _ (codes : List Code) (elements : List Element) (bits : List Bool) (mode : Mode) (at place : ℕ) (code : Code)
-    (below : place < length codes) (is : slice_get codes place ≡ Some code) (path : OnPath codes elements bits mode at place) where
-  next_code : FirstCode mode code (drop (place + 1) codes) path.rest (drop at elements)
-  next_code =
-      first_code (subst (λ (cs : List Code). Spells mode cs path.rest (drop at elements))
-      (drop_more codes place code below ∙ ap (λ (c : Code). c ∷ drop (place + 1) codes) (get_or_from_slice_get codes place code code is)) path.ahead)
+-- The same under equal names.
+pub path_spelled : (codes codes' : List Code) (elements elements' : List Element) (bits : List Bool) (mode : Mode) (at place : ℕ) → codes ≡ codes'
+    → elements ≡ elements' → length codes ≤ place → OnPath codes elements bits mode at place → Spells Upper codes' bits elements'
+path_spelled codes codes' elements elements' bits mode at place same_codes same_elements past path =
+    subst (λ (cs : List Code). Spells Upper cs bits elements') same_codes
+    (subst (λ (es : List Element). Spells Upper codes bits es) same_elements (path_ends codes elements bits mode at place past path))
 
-  -- The next code of a path stands before the elements there.
-  pub path_stands : StandsBefore mode code (drop at elements)
-  path_stands =
+module _ (codes : List Code) (elements : List Element) (bits : List Bool) (mode : Mode) (at place : ℕ) (d : Code)
+    (below : place < length codes) (path : OnPath codes elements bits mode at place) where
+  next_code : FirstCode mode (get_or codes place d) (drop (place + 1) codes) path.rest (drop at elements)
+  next_code =
+      first_code (subst (λ (cs : List Code). Spells mode cs path.rest (drop at elements)) (drop_more codes place d below) path.ahead)
+
+  -- The next code of a path spells the front of the elements there.
+  pub path_fits : SpellsFront mode (get_or codes place d) (drop at elements)
+  path_fits =
       let first = next_code in
       record { bits = first.first; spelled = first.spelled; rest = first.others; next = first.next; entry = first.entry; splits = first.elements_split }
 
   -- One code further on the path.
-  path_steps : (more : List Bool) → more ≡ bits ++ bits_of mode code (drop at elements)
-      → OnPath codes elements more (next_of mode code) (at + count_of mode code) (place + 1)
+  path_steps : (more : List Bool) → more ≡ bits ++ code_bits mode (get_or codes place d) (take (code_count mode (get_or codes place d)) (drop at elements))
+      → OnPath codes elements more (code_next mode (get_or codes place d)) (at + code_count mode (get_or codes place d)) (place + 1)
   path_steps more written =
       let first = next_code in
-      let own : first.first ≡ bits_of mode code (drop at elements) = entry_bits first.others first.entry ∙ ap (bits_of mode code) (sym first.elements_split) in
-      let others : first.others ≡ drop (at + count_of mode code) elements =
-      sym (drop_at first.spelled first.others (count_of mode code) (entry_spelled first.entry))
-      ∙ ap (drop (count_of mode code)) (sym first.elements_split) ∙ drop-drop (count_of mode code) at elements in
+      let front : take (code_count mode (get_or codes place d)) (drop at elements) ≡ first.spelled =
+      ap (take (code_count mode (get_or codes place d))) first.elements_split ∙ take_at first.spelled first.others (code_count mode (get_or codes place d)) (entry_spelled first.entry) in
+      let own : first.first ≡ code_bits mode (get_or codes place d) (take (code_count mode (get_or codes place d)) (drop at elements)) = first.entry.written ∙ ap (code_bits mode (get_or codes place d)) (sym front) in
+      let others : first.others ≡ drop (at + code_count mode (get_or codes place d)) elements =
+      sym (drop_at first.spelled first.others (code_count mode (get_or codes place d)) (entry_spelled first.entry))
+      ∙ ap (drop (code_count mode (get_or codes place d))) (sym first.elements_split) ∙ drop-drop (code_count mode (get_or codes place d)) at elements in
       record {
         rest = first.rest;
-        within = count_there elements at path.within path_stands;
-        ahead = subst (λ (m : Mode). Spells m (drop (place + 1) codes) first.rest (drop (at + count_of mode code) elements)) (entry_next first.entry)
+        within = count_there elements at path.within path_fits;
+        ahead = subst (λ (m : Mode). Spells m (drop (place + 1) codes) first.rest (drop (at + code_count mode (get_or codes place d)) elements)) first.entry.leads
             (subst (λ (es : List Element). Spells first.next (drop (place + 1) codes) first.rest es) others first.rest_spells);
         whole = subst (λ (xs : List Bool). Spells Upper codes xs elements)
             (ap (λ (xs : List Bool). bits ++ xs) first.bits_split ∙ sym (append_assoc bits first.first first.rest)
@@ -177,8 +175,11 @@ module _ (codes : List Code) (elements : List Element) (bits : List Bool) (mode 
       }
 
   -- The same, with the mode, the count and the bits that a caller has computed.
-  pub path_goes_on : (more : List Bool) (next : Mode) (count : ℕ) → more ≡ bits ++ bits_of mode code (drop at elements)
-      → next ≡ next_of mode code → count ≡ count_of mode code → OnPath codes elements more next (at + count) (place + 1)
+  pub path_goes_on : (more : List Bool) (next : Mode) (count : ℕ)
+      → more ≡ bits ++ code_bits mode (get_or codes place d) (take (at + count - at) (drop at elements))
+      → next ≡ code_next mode (get_or codes place d) → count ≡ code_count mode (get_or codes place d) → OnPath codes elements more next (at + count) (place + 1)
   path_goes_on more next count written next_is count_is =
+      let size : at + count - at ≡ code_count mode (get_or codes place d) = omega (arith, count_is) in
       subst (λ (m : Mode). OnPath codes elements more m (at + count) (place + 1)) (sym next_is)
-      (subst (λ (n : ℕ). OnPath codes elements more (next_of mode code) (at + n) (place + 1)) (sym count_is) (path_steps more written))
+      (subst (λ (n : ℕ). OnPath codes elements more (code_next mode (get_or codes place d)) (at + n) (place + 1)) (sym count_is)
+      (path_steps more (written ∙ ap (λ (n : ℕ). bits ++ code_bits mode (get_or codes place d) (take n (drop at elements))) size)))

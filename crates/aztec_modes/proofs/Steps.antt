@@ -5,21 +5,13 @@ use Rattle.std.proofs.lemmas.Option.{get_or_from_slice_get}
 use Rattle.bar_base.specs.Bits.{to_bits}
 use Rattle.bar_base.specs.declared.element.Element.{Element}
 use Rattle.bar_base.specs.declared.element.Element.TheVariants as element
-use Rattle.aztec_modes.specs.Entry.{bytes_as_elements}
-use Rattle.aztec_modes.specs.CodeBits.{run_bits, byte_of}
+use Rattle.aztec_modes.specs.Entry.{bytes_as_elements, element_bits, element_byte}
 use Rattle.aztec_modes.specs.Message.{identifier_bytes}
 
-pub take_more-get : {X : Type 0} (xs : List X) (i : ℕ) (x : X) → i < length xs → slice_get xs i ≡ Some x → take (i + 1) xs ≡ take i xs ++ x ∷ []
-take_more-get xs i x below is = take_more xs i x below ∙ ap (λ y. take i xs ++ y ∷ []) (get_or_from_slice_get xs i x x is)
-
-bytes_as_elements-push : (bytes : List ℕ) (byte : ℕ) → bytes_as_elements (bytes ++ byte ∷ []) ≡ bytes_as_elements bytes ++ element.Byte byte ∷ []
+pub bytes_as_elements-push : (bytes : List ℕ) (byte : ℕ) → bytes_as_elements (bytes ++ byte ∷ []) ≡ bytes_as_elements bytes ++ element.Byte byte ∷ []
 unfolding bytes_as_elements
 bytes_as_elements-push [] byte = refl
 bytes_as_elements-push (first ∷ bytes) byte = ap (λ (es : List Element). element.Byte first ∷ es) (bytes_as_elements-push bytes byte)
-
-pub bytes_as_elements-more : (bytes : List ℕ) (i byte : ℕ) → i < length bytes → slice_get bytes i ≡ Some byte
-    → bytes_as_elements (take (i + 1) bytes) ≡ bytes_as_elements (take i bytes) ++ element.Byte byte ∷ []
-bytes_as_elements-more bytes i byte below is = ap bytes_as_elements (take_more-get bytes i byte below is) ∙ bytes_as_elements-push (take i bytes) byte
 
 bytes_as_elements-append : (former latter : List ℕ) → bytes_as_elements (former ++ latter) ≡ bytes_as_elements former ++ bytes_as_elements latter
 unfolding bytes_as_elements
@@ -59,18 +51,30 @@ header_put a b d e bytes index count first second third =
     third ∙ ap (λ (es : List Element). es ++ element.Byte count ∷ []) (second ∙ ap (λ (es : List Element). es ++ element.Byte index ∷ []) first)
     ∙ two_more a bytes index count
 
-run_bits-push : (es : List Element) (e : Element) → run_bits (es ++ e ∷ []) ≡ run_bits es ++ to_bits 8 (byte_of e)
-unfolding run_bits
-run_bits-push [] e = append-nil (to_bits 8 (byte_of e))
-run_bits-push (first ∷ es) e =
-    ap (λ (bits : List Bool). to_bits 8 (byte_of first) ++ bits) (run_bits-push es e)
-    ∙ sym (append_assoc (to_bits 8 (byte_of first)) (run_bits es) (to_bits 8 (byte_of e)))
+pub element_bits-push : (es : List Element) (e : Element) → element_bits (es ++ e ∷ []) ≡ element_bits es ++ to_bits 8 (element_byte e)
+unfolding element_bits
+element_bits-push [] e = append-nil (to_bits 8 (element_byte e))
+element_bits-push (first ∷ es) e =
+    ap (λ (bits : List Bool). to_bits 8 (element_byte first) ++ bits) (element_bits-push es e)
+    ∙ sym (append_assoc (to_bits 8 (element_byte first)) (element_bits es) (to_bits 8 (element_byte e)))
 
-pub run_bits-more : (es : List Element) (at i : ℕ) (e : Element) → at + i < length es → slice_get es (at + i) ≡ Some e
-    → run_bits (take (i + 1) (drop at es)) ≡ run_bits (take i (drop at es)) ++ to_bits 8 (byte_of e)
-run_bits-more es at i e below is =
-    ap run_bits (take_more (drop at es) i e (omega (arith, length-drop at es))
-    ∙ ap (λ x. take i (drop at es) ++ x ∷ []) (get_or-drop at es i e ∙ get_or_from_slice_get es (at + i) e e is))
-    ∙ run_bits-push (take i (drop at es)) e
+-- One byte more of a list of bytes.
+pub bytes_more : (a b d : List Element) (bytes : List ℕ) (i : ℕ) → i < length bytes → b ≡ a ++ bytes_as_elements (take i bytes)
+    → d ≡ b ++ element.Byte (get_or bytes i 0) ∷ [] → d ≡ a ++ bytes_as_elements (take (i + 1) bytes)
+bytes_more a b d bytes i below so_far pushed =
+    pushed ∙ ap (λ (es : List Element). es ++ element.Byte (get_or bytes i 0) ∷ []) so_far
+    ∙ append_assoc a (bytes_as_elements (take i bytes)) (element.Byte (get_or bytes i 0) ∷ [])
+    ∙ ap (λ (es : List Element). a ++ es) (sym (bytes_as_elements-push (take i bytes) (get_or bytes i 0)))
+    ∙ ap (λ (xs : List ℕ). a ++ bytes_as_elements xs) (sym (take_more bytes i 0 below))
 
-pub ruleset push_steps = (take_more-get, bytes_as_elements-more, run_bits-more, append_assoc, append-nil, take_all)
+-- The byte of one element more.
+pub element_more : (a b d : List Bool) (es : List Element) (i : ℕ) (e : Element) (byte : ℕ) → i < length es → b ≡ a ++ element_bits (take i es)
+    → byte ≡ element_byte (get_or es i e) → d ≡ b ++ to_bits 8 byte → d ≡ a ++ element_bits (take (i + 1) es)
+element_more a b d es i e byte below so_far is pushed =
+    pushed ∙ ap (λ (xs : List Bool). xs ++ to_bits 8 byte) so_far
+    ∙ append_assoc a (element_bits (take i es)) (to_bits 8 byte)
+    ∙ ap (λ (n : ℕ). a ++ (element_bits (take i es) ++ to_bits 8 n)) is
+    ∙ ap (λ (xs : List Bool). a ++ xs) (sym (element_bits-push (take i es) (get_or es i e)))
+    ∙ ap (λ (xs : List Element). a ++ element_bits xs) (sym (take_more es i e below))
+
+pub ruleset push_steps = (bytes_as_elements-push, element_bits-push, append_assoc, append-nil, take_all)

@@ -10,35 +10,35 @@ use Rattle.aztec_modes.specs.declared.table.Symbol.TheVariants.{Absent, One, Two
 use Rattle.aztec_modes.specs.declared.table.TheConstants.{UPPER, LOWER, MIXED, PUNCT, DIGIT}
 
 -- The code table of a mode.
-unfoldable pub table_of : Mode → List Symbol
-table_of Upper = UPPER
-table_of Lower = LOWER
-table_of Mixed = MIXED
-table_of Punct = PUNCT
-table_of Digit = DIGIT
+unfoldable pub code_table : Mode → List Symbol
+code_table Upper = UPPER
+code_table Lower = LOWER
+code_table Mixed = MIXED
+code_table Punct = PUNCT
+code_table Digit = DIGIT
 
 -- What a number stands for in a mode.
-unfoldable pub symbol_of : (mode : Mode) (number : ℕ) → Symbol
-symbol_of mode number = slice_index_or (table_of mode) number Absent
+unfoldable pub table_symbol : (mode : Mode) (number : ℕ) → Symbol
+table_symbol mode number = slice_index_or (code_table mode) number Absent
 
 -- Codes have 5 bits, those of Digit mode 4.
-unfoldable pub width_of : Mode → ℕ
-width_of Upper = 5
-width_of Lower = 5
-width_of Mixed = 5
-width_of Punct = 5
-width_of Digit = 4
+unfoldable pub mode_width : Mode → ℕ
+mode_width Upper = 5
+mode_width Lower = 5
+mode_width Mixed = 5
+mode_width Punct = 5
+mode_width Digit = 4
 
 -- The bits of a number of the table, the highest first.
-unfoldable pub code_bits : (mode : Mode) (number : ℕ) → List Bool
-code_bits mode number = to_bits (width_of mode) number
+unfoldable pub number_bits : (mode : Mode) (number : ℕ) → List Bool
+number_bits mode number = to_bits (mode_width mode) number
 
 -- What a data code spells: one byte, or the two bytes of a pair. No other code is a data code.
-unfoldable pub data_of : Symbol → Option (List Element)
-data_of (One byte) = Some (Byte byte ∷ [])
-data_of (Two first second) = Some (Byte first ∷ Byte second ∷ [])
-data_of Absent = None
-data_of (LatchTo mode) = None
-data_of (ShiftTo mode) = None
-data_of Binary = None
-data_of Flag = None
+unfoldable pub data_spelled : Symbol → Option (List Element)
+data_spelled (One byte) = Some (Byte byte ∷ [])
+data_spelled (Two first second) = Some (Byte first ∷ Byte second ∷ [])
+data_spelled Absent = None
+data_spelled (LatchTo mode) = None
+data_spelled (ShiftTo mode) = None
+data_spelled Binary = None
+data_spelled Flag = None

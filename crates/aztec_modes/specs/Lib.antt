@@ -2,6 +2,6 @@ pub mod Codes
 pub mod Entry
 pub mod Spelling
 pub mod Message
-pub mod Numbers
-pub mod Order
-pub mod CodeBits
+pub mod Reading
+pub mod Ahead
+pub mod Split

@@ -8,7 +8,7 @@ use Rattle.aztec_modes.specs.Entry.{bytes_as_elements}
 use Rattle.aztec_modes.specs.Spelling.{IsSpelling}
 
 -- The place of a symbol in a set: one of 2 to 26 symbols.
-pub record IsPlace (append : Append) : Type 0 where
+pub record IsAppendPlace (append : Append) : Type 0 where
   pub from_one : 1 ≤ append.index
   pub to_count : append.index ≤ append.count
   pub some : 2 ≤ append.count
@@ -16,7 +16,7 @@ pub record IsPlace (append : Append) : Type 0 where
 
 -- A message that has elements: its place is one of a set, and its ECI has at most six digits.
 pub record IsMessage (message : Message) : Type 0 where
-  pub place : IfSome message.append IsPlace
+  pub place : IfSome message.append IsAppendPlace
   pub eci : IfSome message.eci (λ number. number ≤ 999999)
 
 -- The identifier of a set between two spaces, or nothing where it is empty.

@@ -2,23 +2,23 @@
 //! sequence of codes.
 #![tactic(auto)]
 
+mod ahead;
 mod code;
-mod laws;
-mod measure;
 mod message;
 mod mode;
-mod numbers;
+mod parts;
 mod path;
+mod reading;
 mod spelling;
+mod splitting;
 mod table;
 
 pub use code::Code;
-pub use laws::{characters_stand_in_order, codes_are_told_apart};
-pub use measure::{cost, count, next_mode, upper_code};
 pub use message::elements_of;
 pub use mode::Mode;
-pub use numbers::{code_at, span};
+pub use parts::{code_count, code_length, code_next, flag_width, run_head};
 pub use path::Path;
+pub use reading::{ReadFault, read};
 pub use spelling::spell;
 pub use table::{DIGIT, LOWER, MIXED, PUNCT, Symbol, UPPER, symbol_at, width};
 

@@ -1,42 +1,18 @@
 ghost use Rattle.std.specs.Prelude.{◌≡◌, ◌<◌, ◌≤◌, ◌++◌, Some, OnOk, IfOk, IfSome, length, slice_get};
 ghost use Rattle.bar_base.specs.Elements.{IsElement};
 ghost use Rattle.aztec_modes.specs.Entry.{bytes_as_elements};
-ghost use Rattle.aztec_modes.specs.Message.{IsMessage, IsPlace, eci_elements, gs1_elements, header_bytes, header_elements, identifier_bytes, message_elements};
+ghost use Rattle.aztec_modes.specs.Message.{IsMessage, IsAppendPlace, eci_elements, gs1_elements, header_bytes, header_elements, identifier_bytes, message_elements};
 
 use bar_base::{Append, Element, Elements, Ident, Message, NoMemory};
 use std::alloc::Global;
-
-/// The element at a place below the length.
-pub fn element_at(elements: &Elements, at: usize) -> Element
-    requires { at < length elements.now }
-    ensures found { slice_get elements.now at ≡ Some result }
-    ensures element { IsElement result }
-{
-    let _count = elements.len();
-    match elements.get(at) {
-        Some(element) => element,
-        None => unreachable!(),
-    }
-}
-
-/// The byte at a place of an identifier.
-fn byte_at(id: &Ident, at: usize) -> u8
-    requires { at < length id.now }
-    ensures { slice_get id.now at ≡ Some result }
-{
-    match id.get(at) {
-        Some(byte) => byte,
-        None => unreachable!(),
-    }
-}
 
 /// Puts the bytes of an identifier at the end.
 #[tactic(auto, using(crate::proofs::Steps::push_steps), unfolding(crate::specs::Entry::bytes_as_elements))]
 fn push_bytes(elements: &mut Elements, id: &Ident) -> Result<(), NoMemory>
     ensures { OnOk result (elements.new ≡ elements.old ++ bytes_as_elements id.now) }
 {
-    for at in 0..id.len() {
-        elements.push(Element::Byte(byte_at(id, at)))?;
+    for byte in id.as_slice() {
+        elements.push(Element::Byte(*byte))?;
     }
     Ok(())
 }
@@ -58,7 +34,7 @@ fn push_identifier(elements: &mut Elements, id: &Ident) -> Result<(), NoMemory>
 /// Puts the header of a symbol of a set at the end.
 #[tactic(auto, unfolding(crate::specs::Message::header_bytes, crate::specs::Entry::bytes_as_elements))]
 fn push_header(elements: &mut Elements, append: &Append) -> Result<(), NoMemory>
-    requires { IsPlace append.now }
+    requires { IsAppendPlace append.now }
     ensures { OnOk result (elements.new ≡ elements.old ++ bytes_as_elements (header_bytes append.now)) }
 {
     push_identifier(elements, &append.id)?;
@@ -70,7 +46,7 @@ fn push_header(elements: &mut Elements, append: &Append) -> Result<(), NoMemory>
 /// Puts the header at the end where there is one.
 #[tactic(auto, unfolding(crate::specs::Message::header_elements))]
 fn push_append(elements: &mut Elements, append: &Option<Append>) -> Result<(), NoMemory>
-    requires { IfSome append.now IsPlace }
+    requires { IfSome append.now IsAppendPlace }
     ensures { OnOk result (elements.new ≡ elements.old ++ header_elements append.now) }
 {
     match append {
@@ -111,8 +87,8 @@ fn push_eci(elements: &mut Elements, eci: Option<u32>) -> Result<(), NoMemory>
 fn push_body(elements: &mut Elements, body: &Elements) -> Result<(), NoMemory>
     ensures { OnOk result (elements.new ≡ elements.old ++ body.now) }
 {
-    for at in 0..body.len() {
-        elements.push(element_at(body, at))?;
+    for element in body.as_slice() {
+        elements.push(*element)?;
     }
     Ok(())
 }

@@ -1,5 +1,5 @@
-ghost use Rattle.std.specs.Prelude.{◌≡◌};
-ghost use Rattle.aztec_modes.specs.Codes.{table_of, symbol_of, width_of};
+ghost use Rattle.std.specs.Prelude.{◌≡◌, ◌≤◌};
+ghost use Rattle.aztec_modes.specs.Codes.{code_table, table_symbol, mode_width};
 
 use crate::mode::Mode;
 
@@ -187,9 +187,10 @@ pub const DIGIT: [Symbol; 16] = [
 ];
 
 /// The code table of a mode.
-#[tactic(auto, unfolding(crate::specs::Codes::table_of))]
+#[tactic(auto, unfolding(crate::specs::Codes::code_table))]
+#[inline(always)]
 fn table(mode: Mode) -> &'static [Symbol]
-    ensures { result.now ≡ table_of mode }
+    ensures { result.now ≡ code_table mode }
 {
     match mode {
         Mode::Upper => &UPPER,
@@ -201,9 +202,10 @@ fn table(mode: Mode) -> &'static [Symbol]
 }
 
 /// What a number stands for in a mode; `Symbol::Absent` where no code of the mode has it.
-#[tactic(auto, unfolding(crate::specs::Codes::symbol_of))]
+#[tactic(auto, unfolding(crate::specs::Codes::table_symbol))]
+#[inline(always)]
 pub fn symbol_at(mode: Mode, number: u8) -> Symbol
-    ensures { result ≡ symbol_of mode number }
+    ensures { result ≡ table_symbol mode number }
 {
     match table(mode).get(number as usize) {
         Some(found) => *found,
@@ -212,9 +214,11 @@ pub fn symbol_at(mode: Mode, number: u8) -> Symbol
 }
 
 /// How many bits the codes of a mode have: 5, and 4 in Digit mode.
-#[tactic(auto, unfolding(crate::specs::Codes::width_of))]
+#[tactic(auto, unfolding(crate::specs::Codes::mode_width))]
+#[inline(always)]
 pub fn width(mode: Mode) -> u32
-    ensures { result ≡ width_of mode }
+    ensures is { result ≡ mode_width mode }
+    ensures narrow { result ≤ 5 }
 {
     match mode {
         Mode::Digit => 4,

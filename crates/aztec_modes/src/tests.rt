@@ -2,10 +2,11 @@ ghost use Rattle.std.specs.Prelude.{◌≡◌, All, IfOk};
 ghost use Rattle.bar_base.specs.Elements.{IsElement};
 
 use crate::code::Code;
-use crate::measure::{cost, count};
 use crate::message::elements_of;
 use crate::mode::Mode;
+use crate::parts::{code_count, code_length};
 use crate::path::Path;
+use crate::reading::{ReadFault, read};
 use crate::spelling::spell;
 use crate::table::{Symbol, symbol_at};
 use bar_base::{Append, Bits, Element, Elements, Ident, Message, NoMemory};
@@ -61,16 +62,65 @@ fn has(elements: &Elements, items: &[Element]) -> bool {
     true
 }
 
-/// Whether the numbers from `first` on stand for these bytes.
-fn stand_for(mode: Mode, first: u8, bytes: &[u8]) -> bool {
-    let mut number = first;
-    for byte in bytes {
-        if symbol_at(mode, number) != Symbol::One(*byte) {
+/// The bits of a text of `0` and `1`.
+fn bits_from(alloc: Global, text: &[u8]) -> Result<Bits, NoMemory> {
+    let mut bits = Bits::new(alloc);
+    for digit in text {
+        bits.push(*digit == b'1')?;
+    }
+    Ok(bits)
+}
+
+/// Puts the lowest `width` bits of a number at the end of bits, the highest first.
+fn push_number(bits: &mut Bits, number: u8, width: u32) -> Result<(), NoMemory> {
+    for i in 0..width.min(8) {
+        bits.push((number >> (width.min(8) - 1 - i)) % 2 == 1)?;
+    }
+    Ok(())
+}
+
+/// Bits that begin as a text writes them, and go on with the numbers from 1 to `last`.
+fn codes_after(alloc: Global, latches: &[u8], width: u32, last: u8) -> Result<Bits, NoMemory> {
+    let mut bits = bits_from(alloc, latches)?;
+    for number in 1..last {
+        push_number(&mut bits, number, width)?;
+    }
+    push_number(&mut bits, last, width)?;
+    Ok(bits)
+}
+
+/// Whether a list has these bytes.
+fn has_bytes(elements: &Elements, bytes: &[u8]) -> bool {
+    if elements.len() != bytes.len() {
+        return false;
+    }
+    for (at, byte) in bytes.iter().enumerate() {
+        if elements.get(at) != Some(Element::Byte(*byte)) {
             return false;
         }
-        number = number.wrapping_add(1);
     }
     true
+}
+
+/// Whether bits read, in codewords of 12 bits, as a message of these bytes alone.
+fn read_as_bytes(alloc: Global, bits: &Bits, bytes: &[u8]) -> bool {
+    match read(alloc, bits, 12) {
+        Ok(message) => {
+            message.append.is_none()
+                && !message.gs1
+                && message.eci.is_none()
+                && has_bytes(&message.body, bytes)
+        }
+        Err(_) => false,
+    }
+}
+
+/// The place of a code that cannot be read, in codewords of 6 bits.
+fn bad_place(alloc: Global, bits: &Bits) -> Option<usize> {
+    match read(alloc, bits, 6) {
+        Err(ReadFault::BadSpelling(place)) => Some(place),
+        Err(ReadFault::NoMemory) | Ok(_) => None,
+    }
 }
 
 #[test]
@@ -186,33 +236,146 @@ fn a_message_has_header_fnc1_eci_and_body(rt: HostRuntime) -> Result<(), Fail> {
 }
 
 #[test]
-fn the_tables_have_the_codes_of_the_standard(rt: HostRuntime) {
-    assert!(rt; stand_for(Mode::Upper, 1, b" ABCDEFGHIJKLMNOPQRSTUVWXYZ"));
-    assert!(rt; stand_for(Mode::Lower, 1, b" abcdefghijklmnopqrstuvwxyz"));
+fn spells_ecis_of_one_two_and_six_digits(rt: HostRuntime) -> Result<(), Fail> {
+    let path = path_of(
+        rt.alloc(),
+        &[Code::Eci(3, 1), Code::Eci(26, 2), Code::Eci(899_123, 6)],
+    )?;
+    let elements = elements_from(
+        rt.alloc(),
+        &[Element::Eci(3), Element::Eci(26), Element::Eci(899_123)],
+    )?;
+    let bits = spell(rt.alloc(), &path, &elements)?;
+    // P/S, FLG(n), n in three bits, and the digits: a digit d is the code d + 2 of Digit mode
     assert!(rt;
-        stand_for(
-            Mode::Mixed,
-            1,
+        writes(
+            &bits,
+            b"000000000000101010000000000010010010000000000000110101010111011001101000101"
+        )
+    );
+    Ok(())
+}
+
+#[test]
+fn data_codes_read_as_the_characters_of_the_standard(rt: HostRuntime) -> Result<(), Fail> {
+    let upper = codes_after(rt.alloc(), b"", 5, 27)?;
+    assert!(rt; read_as_bytes(rt.alloc(), &upper, b" ABCDEFGHIJKLMNOPQRSTUVWXYZ"));
+    let lower = codes_after(rt.alloc(), b"11100", 5, 27)?;
+    assert!(rt; read_as_bytes(rt.alloc(), &lower, b" abcdefghijklmnopqrstuvwxyz"));
+    let mixed = codes_after(rt.alloc(), b"11101", 5, 27)?;
+    assert!(rt;
+        read_as_bytes(
+            rt.alloc(),
+            &mixed,
             b" \x01\x02\x03\x04\x05\x06\x07\x08\x09\x0A\x0B\x0C\x0D\x1B\x1C\x1D\x1E\x1F@\\^_`|~\x7F"
         )
     );
-    assert!(rt; stand_for(Mode::Punct, 6, b"!\"#$%&'()*+,-./:;<=>?[]{}"));
-    assert!(rt; stand_for(Mode::Digit, 1, b" 0123456789,."));
-    assert_eq!(rt; symbol_at(Mode::Punct, 1), Symbol::One(13));
-    assert_eq!(rt; symbol_at(Mode::Punct, 2), Symbol::Two(13, 10));
-    assert_eq!(rt; symbol_at(Mode::Punct, 3), Symbol::Two(b'.', b' '));
-    assert_eq!(rt; symbol_at(Mode::Punct, 4), Symbol::Two(b',', b' '));
-    assert_eq!(rt; symbol_at(Mode::Punct, 5), Symbol::Two(b':', b' '));
+    let punct = codes_after(rt.alloc(), b"1110111110", 5, 30)?;
+    assert!(rt;
+        read_as_bytes(
+            rt.alloc(),
+            &punct,
+            b"\r\r\n. , : !\"#$%&'()*+,-./:;<=>?[]{}"
+        )
+    );
+    let digit = codes_after(rt.alloc(), b"11110", 4, 13)?;
+    assert!(rt; read_as_bytes(rt.alloc(), &digit, b" 0123456789,."));
+    Ok(())
+}
+
+/// The codes of each mode that are no data codes, with their numbers.
+const CONTROLS: [(Mode, u8, Symbol); 23] = [
+    (Mode::Upper, 0, Symbol::ShiftTo(Mode::Punct)),
+    (Mode::Upper, 28, Symbol::LatchTo(Mode::Lower)),
+    (Mode::Upper, 29, Symbol::LatchTo(Mode::Mixed)),
+    (Mode::Upper, 30, Symbol::LatchTo(Mode::Digit)),
+    (Mode::Upper, 31, Symbol::Binary),
+    (Mode::Lower, 0, Symbol::ShiftTo(Mode::Punct)),
+    (Mode::Lower, 28, Symbol::ShiftTo(Mode::Upper)),
+    (Mode::Lower, 29, Symbol::LatchTo(Mode::Mixed)),
+    (Mode::Lower, 30, Symbol::LatchTo(Mode::Digit)),
+    (Mode::Lower, 31, Symbol::Binary),
+    (Mode::Mixed, 0, Symbol::ShiftTo(Mode::Punct)),
+    (Mode::Mixed, 28, Symbol::LatchTo(Mode::Lower)),
+    (Mode::Mixed, 29, Symbol::LatchTo(Mode::Upper)),
+    (Mode::Mixed, 30, Symbol::LatchTo(Mode::Punct)),
+    (Mode::Mixed, 31, Symbol::Binary),
+    (Mode::Punct, 0, Symbol::Flag),
+    (Mode::Punct, 31, Symbol::LatchTo(Mode::Upper)),
+    (Mode::Digit, 0, Symbol::ShiftTo(Mode::Punct)),
+    (Mode::Digit, 14, Symbol::LatchTo(Mode::Upper)),
+    (Mode::Digit, 15, Symbol::ShiftTo(Mode::Upper)),
+    (Mode::Upper, 32, Symbol::Absent),
+    (Mode::Punct, 32, Symbol::Absent),
+    (Mode::Digit, 16, Symbol::Absent),
+];
+
+#[test]
+fn the_other_codes_are_those_of_the_standard(rt: HostRuntime) {
+    for (mode, number, symbol) in CONTROLS {
+        assert_eq!(rt; symbol_at(mode, number), symbol);
+    }
 }
 
 #[test]
 fn runs_and_ecis_have_the_lengths_of_the_standard(rt: HostRuntime) {
-    assert_eq!(rt; cost(Mode::Upper, Code::Run(1, false)), 18);
-    assert_eq!(rt; cost(Mode::Upper, Code::Run(31, false)), 258);
-    assert_eq!(rt; cost(Mode::Upper, Code::Run(63, true)), 525);
-    assert_eq!(rt; cost(Mode::Upper, Code::Run(2078, true)), 16645);
-    assert_eq!(rt; cost(Mode::Punct, Code::Eci(7, 1)), 12);
-    assert_eq!(rt; cost(Mode::Digit, Code::Eci(999_999, 6)), 36);
-    assert_eq!(rt; count(Mode::Punct, Code::Plain(3)), 2);
-    assert_eq!(rt; count(Mode::Upper, Code::Run(62, true)), 62);
+    for (count, long, bits) in [
+        (1, false, 18),
+        (31, false, 258),
+        (31, true, 269),
+        (32, true, 277),
+        (62, true, 517),
+        (63, true, 525),
+        (2078, true, 16_645),
+    ] {
+        assert_eq!(rt; code_length(Mode::Upper, Code::Run(count, long)), bits);
+        assert_eq!(rt; code_count(Mode::Upper, Code::Run(count, long)), count);
+    }
+    assert_eq!(rt; code_length(Mode::Punct, Code::Eci(7, 1)), 12);
+    assert_eq!(rt; code_length(Mode::Digit, Code::Eci(999_999, 6)), 36);
+    assert_eq!(rt; code_count(Mode::Punct, Code::Plain(3)), 2);
+}
+
+#[test]
+fn bits_that_cannot_be_read_name_the_code(rt: HostRuntime) -> Result<(), Fail> {
+    // FLG(7)
+    let flag = bits_from(rt.alloc(), b"0000000000111")?;
+    assert_eq!(rt; bad_place(rt.alloc(), &flag), Some(0));
+    // A, then a run of two bytes of which one is there
+    let run = bits_from(rt.alloc(), b"00010111110001001000001")?;
+    assert_eq!(rt; bad_place(rt.alloc(), &run), Some(5));
+    // P/S before U/L
+    let shift = bits_from(rt.alloc(), b"0000011111")?;
+    assert_eq!(rt; bad_place(rt.alloc(), &shift), Some(0));
+    // an ECI whose digit is no digit
+    let digit = bits_from(rt.alloc(), b"00000000000011100")?;
+    assert_eq!(rt; bad_place(rt.alloc(), &digit), Some(0));
+    // the mark of a set, and no header after it
+    let set = bits_from(rt.alloc(), b"111011110100010")?;
+    assert_eq!(rt; bad_place(rt.alloc(), &set), Some(10));
+    Ok(())
+}
+
+#[test]
+fn ones_that_fill_a_codeword_end_a_message(rt: HostRuntime) -> Result<(), Fail> {
+    let five = bits_from(rt.alloc(), b"11111")?;
+    assert_eq!(rt; bad_place(rt.alloc(), &five), None);
+    let six = bits_from(rt.alloc(), b"111111")?;
+    assert_eq!(rt; bad_place(rt.alloc(), &six), Some(0));
+    assert!(rt; read_as_bytes(rt.alloc(), &five, b""));
+    Ok(())
+}
+
+#[test]
+fn an_eci_with_leading_zeros_reads(rt: HostRuntime) -> Result<(), Fail> {
+    // P/S, FLG(3), the digits 0, 0, 7, and A
+    let bits = bits_from(rt.alloc(), b"000000000001100100010100100010")?;
+    match read(rt.alloc(), &bits, 6) {
+        Ok(message) => {
+            assert_eq!(rt; message.eci, Some(7));
+            assert!(rt; has_bytes(&message.body, b"A"));
+        }
+        Err(_) => assert!(rt; false),
+    }
+    Ok(())
 }

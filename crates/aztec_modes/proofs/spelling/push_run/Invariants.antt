@@ -1,6 +1,6 @@
-use Rattle.std.proofs.Common.{◌≡◌, ◌++◌, take, drop}
-use Rattle.aztec_modes.specs.CodeBits.{run_bits}
+use Rattle.std.proofs.Common.{◌≡◌, ◌++◌, take}
+use Rattle.aztec_modes.specs.Entry.{element_bits}
 use Rattle.aztec_modes.proofs.spelling.push_run.Given as goal
 
-abbrev pub invariant-loop-place : goal.invariant-loop-place
-invariant-loop-place l = l.bits ≡ l.fn.bits ++ run_bits (take l.place (drop l.at l.elements))
+abbrev pub invariant-loop-element : goal.invariant-loop-element
+invariant-loop-element l = l.bits ≡ l.fn.bits ++ element_bits (take l.element-index l.elements)

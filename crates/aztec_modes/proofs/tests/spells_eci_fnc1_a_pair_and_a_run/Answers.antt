@@ -1,14 +1,15 @@
 use Rattle.std.proofs.Common.{ℕ, ◌<◌, [], ◌∷◌, refl, arith}
 use Rattle.std.proofs.lemmas.List.Elements.{All-nil, All-cons}
 use Rattle.aztec_modes.specs.declared.mode.Mode.TheVariants.{Upper, Mixed, Punct}
-use Rattle.aztec_modes.specs.Codes.{symbol_of, table_of}
-use Rattle.aztec_modes.specs.Entry.{direct, shifted, bytes_as_elements}
+use Rattle.aztec_modes.specs.Codes.{table_symbol, code_table}
+use Rattle.aztec_modes.specs.Entry.{bytes_as_elements}
+use Rattle.aztec_modes.proofs.Forms.{direct, shifted}
 use Rattle.aztec_modes.specs.Spelling.{nothing}
 use Rattle.aztec_modes.proofs.Paths.{by_byte, by_pair, by_latch, by_fnc1, by_eci, by_short_run, path_moved}
 use Rattle.aztec_modes.proofs.tests.spells_eci_fnc1_a_pair_and_a_run.Goals as goal
 
 pub spell-requires : goal.spell-requires
-unfolding symbol_of table_of bytes_as_elements
+unfolding table_symbol code_table bytes_as_elements
 spell-requires g c =
     path_moved c.in_ok-path.ensures c.in_ok-elements.ensures (
       _,

@@ -1,12 +1,12 @@
 use Rattle.std.proofs.Common.{refl}
 use Rattle.aztec_modes.specs.declared.mode.Mode.TheVariants.{Upper, Lower, Punct, Digit}
-use Rattle.aztec_modes.specs.Codes.{symbol_of, table_of}
+use Rattle.aztec_modes.specs.Codes.{table_symbol, code_table}
 use Rattle.aztec_modes.specs.Spelling.{nothing}
 use Rattle.aztec_modes.proofs.Paths.{by_byte, by_latch, by_shift, path_moved}
 use Rattle.aztec_modes.proofs.tests.spells_in_upper_lower_and_digit_with_shifts.Goals as goal
 
 pub spell-requires : goal.spell-requires
-unfolding symbol_of table_of
+unfolding table_symbol code_table
 spell-requires g c =
     path_moved c.in_ok-path.ensures c.in_ok-elements.ensures (
       _,

@@ -1,5 +1,0 @@
-use Rattle.std.proofs.Common.{arith}
-use Rattle.aztec_modes.proofs.spelling.number_of.Goals as goal
-
-pub unreachable-requires : goal.unreachable-requires
-unreachable-requires c = c.loop-number.invariant c.requires.0 (omega arith) c.requires.2
