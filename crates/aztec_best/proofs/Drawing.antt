@@ -1,5 +1,5 @@
--- The first of the shortest spellings: it is there, it is one, it begins with the pick, and it never begins with the mark of a set.
-use Rattle.std.proofs.Common.{◌≡◌, inl, inr, ℕ, zero, suc, ◌+◌, ◌*◌, ◌<◌, ◌≤◌, Bool, true, false, List, [], ◌∷◌, ◌++◌, length, drop, All, Some, refl, sym, ap, subst, ◌∙◌, arith, append_assoc, append-nil, if◌then◌else◌}
+-- The first of the shortest spellings: it is there, it is one, it begins with the first of the cheapest codes, and it never begins with the mark of a set.
+use Rattle.std.proofs.Common.{◌≡◌, inl, inr, ℕ, zero, suc, ◌+◌, ◌*◌, ◌<◌, ◌≤◌, Bool, true, false, List, [], ◌∷◌, ◌++◌, length, drop, All, refl, sym, ap, subst, ◌∙◌, arith, append_assoc, append-nil, if◌then◌else◌}
 use Rattle.std.proofs.lemmas.Bool.{cases_lt}
 use Rattle.std.proofs.lemmas.List.{length-append, drop_all}
 use Rattle.bar_base.specs.Elements.{IsElement}
@@ -8,96 +8,74 @@ use Rattle.aztec_modes.specs.declared.mode.Mode.{Mode}
 use Rattle.aztec_modes.specs.declared.mode.Mode.TheVariants.{Upper, Lower, Mixed, Punct, Digit}
 use Rattle.aztec_modes.specs.declared.code.Code.{Code}
 use Rattle.aztec_modes.specs.declared.code.Code.TheVariants.{Latch}
-use Rattle.aztec_modes.specs.Codes.{symbol_of, table_of, width_of, code_bits}
-use Rattle.aztec_modes.specs.Entry.{Entry, latch, plain, shift, fnc1, eci, short_run, long_run}
-use Rattle.aztec_modes.specs.Numbers.{cost_of, count_of, next_of, flag_width}
+use Rattle.aztec_modes.specs.Codes.{table_symbol, code_table, mode_width, number_bits}
+use Rattle.aztec_modes.specs.Entry.{Entry, code_count, code_next}
+use Rattle.aztec_modes.proofs.Forms.{latch, entry_of}
 use Rattle.aztec_modes.specs.Spelling.{Spells, nothing, onward, append_mark, IsMarked, IsPathOf}
-use Rattle.aztec_modes.proofs.EntryLaws.{length-code_bits}
+use Rattle.aztec_modes.proofs.EntryLaws.{length-number_bits}
+use Rattle.aztec_modes.proofs.PathLaws.{cost_positive}
 use Rattle.aztec_modes.proofs.OneReading.{one_reading}
 use Rattle.aztec_modes.proofs.Marks.{append_mark-codes}
 use Rattle.aztec_best.specs.declared.costs.Costs.{Costs}
 use Rattle.aztec_best.specs.Shortest.{Precedes, IsFirst, BeginsFirst, IsDrawn, IsFewest}
-use Rattle.aztec_best.specs.Bench.{cost_at, IsFilled}
-use Rattle.aztec_best.specs.Search.{front_of, picked}
+use Rattle.aztec_best.specs.Bench.{kept_cost, IsFilledFrom}
 use Rattle.aztec_best.specs.DrawnPath.{mark_codes, IsDrawnPath}
 use Rattle.aztec_best.proofs.Order.{Precedes-behind, Precedes-length, Precedes-nil, Precedes-antisym}
 use Rattle.aztec_best.proofs.Small.{stands_within, spellable}
-use Rattle.aztec_best.proofs.PickLaws.{IsPick, picked-is, picked-there, pick_stands, pick_cheap, pick_first}
+use Rattle.aztec_best.specs.Picks.{IsNext}
+use Rattle.aztec_best.proofs.NextCodes.{next_there, next_cheap, next_first}
 
 -- no bits are the first spelling of no elements
 pub first_nothing : (m : Mode) → IsFirst m [] [] []
 first_nothing m = record { spells = nothing; first = λ others spelled. Precedes-nil others }
 
-width_wide : (m : Mode) → 4 ≤ width_of m
-unfolding width_of
+width_wide : (m : Mode) → 4 ≤ mode_width m
+unfolding mode_width
 width_wide Upper = omega arith
 width_wide Lower = omega arith
 width_wide Mixed = omega arith
 width_wide Punct = omega arith
 width_wide Digit = omega arith
 
-flag_wide : (m : Mode) → 8 ≤ flag_width m
-unfolding flag_width
-flag_wide Upper = omega arith
-flag_wide Lower = omega arith
-flag_wide Mixed = omega arith
-flag_wide Punct = omega arith
-flag_wide Digit = omega arith
+module _ (table : List Costs) (es : List Element) (filled : IsFilledFrom table es 0) (valid : All IsElement es) where
+  -- the mode and place after it are nearer to the end
+  pub next_nearer : (place : ℕ) (m : Mode) (code : Code) → IsNext table es place m code
+      → kept_cost table (place + code_count m code) (code_next m code) < kept_cost table place m
+  next_nearer place m code next = omega (arith, next_cheap table es filled valid place m code next, cost_positive m code)
 
--- each code has bits
-entry_wide : {m next : Mode} {code : Code} {bits : List Bool} {spelled : List Element} → Entry m code bits spelled next → 1 ≤ cost_of m code
-unfolding cost_of
-entry_wide {m = m} (latch number is) = omega (arith, width_wide m)
-entry_wide {m = m} (plain is) = omega (arith, width_wide m)
-entry_wide {m = m} (shift {to = to} number is data_is) = omega (arith, width_wide m)
-entry_wide {m = m} (fnc1 flag) = omega (arith, flag_wide m)
-entry_wide {m = m} (eci flag low high fits) = omega (arith, flag_wide m)
-entry_wide (short_run number bytes is size low high ok) = omega arith
-entry_wide (long_run number bytes is size low high ok) = omega arith
-
-module _ (table : List Costs) (es : List Element) (filled : IsFilled table es) (valid : All IsElement es) where
-  -- the mode and place after the pick are nearer to the end
-  pub pick_nearer : (place : ℕ) (m : Mode) (code : Code) → place ≤ length es → IsPick table es place m code
-      → cost_at table (place + count_of m code) (next_of m code) < cost_at table place m
-  pick_nearer place m code within pick =
-      omega (arith, pick_cheap table es filled valid place m code within pick, entry_wide (pick_stands table es filled valid place m code pick).entry)
-
-  pub pick_within : (place : ℕ) (m : Mode) (code : Code) → place ≤ length es → IsPick table es place m code → place + count_of m code ≤ length es
-  pick_within place m code within pick = stands_within m code es place (pick_stands table es filled valid place m code pick) within
+  pub next_within : (place : ℕ) (m : Mode) (code : Code) → place ≤ length es → IsNext table es place m code → place + code_count m code ≤ length es
+  next_within place m code within next = stands_within m code es place next.cheapest.front within
 
   first_end : (place : ℕ) (m : Mode) → length es ≤ place → IsFirst m (drop place es) [] []
   first_end place m past = subst (λ (xs : List Element). IsFirst m xs [] []) (sym (drop_all place es past)) (first_nothing m)
 
   -- the first of the shortest spellings is there
-  firsts : (fuel place : ℕ) (m : Mode) → place ≤ length es → cost_at table place m ≤ fuel
+  firsts : (fuel place : ℕ) (m : Mode) → place ≤ length es → kept_cost table place m ≤ fuel
       → (codes : List Code) × (bits : List Bool) × IsFirst m (drop place es) codes bits
   firsts zero place m within few =
       elim (cases_lt place (length es)) [
         | inl inside ↦
-            let (code, is) = picked-there table es filled valid place m inside in
-            absurd (omega (arith, pick_nearer place m code within (picked-is table es place m code is)))
+            let (code, next) = next_there table es filled valid place m inside in
+            absurd (omega (arith, next_nearer place m code next))
         | inr past ↦ ([], [], first_end place m past)
       ]
   firsts (suc fuel) place m within few =
       elim (cases_lt place (length es)) [
         | inl inside ↦
-            let (code, is) = picked-there table es filled valid place m inside in
-            let pick = picked-is table es place m code is in
-            let (codes, more, first) = firsts fuel (place + count_of m code) (next_of m code) (pick_within place m code within pick)
-            (omega (arith, pick_nearer place m code within pick)) in
-            let (bits, whole) = pick_first table es filled valid place m code inside pick codes more first in
+            let (code, next) = next_there table es filled valid place m inside in
+            let (codes, more, first) = firsts fuel (place + code_count m code) (code_next m code) (next_within place m code within next)
+            (omega (arith, next_nearer place m code next)) in
+            let (bits, whole) = next_first table es filled valid place m code inside next codes more first in
             (code ∷ codes, bits, whole)
         | inr past ↦ ([], [], first_end place m past)
       ]
 
-  -- the pick begins it
-  pub picked_begins : (place : ℕ) (m : Mode) (code : Code) → place < length es → picked table place m (front_of (drop place es)) ≡ Some code
-      → BeginsFirst m (drop place es) code
-  picked_begins place m code inside is =
-      let pick = picked-is table es place m code is in
-      let after = place + count_of m code in
-      let (codes, more, first) = firsts (cost_at table after (next_of m code)) after (next_of m code) (pick_within place m code (omega arith) pick) (omega arith) in
-      let (bits, whole) = pick_first table es filled valid place m code inside pick codes more first in
+  -- the first of the cheapest codes begins it
+  pub next_begins : (place : ℕ) (m : Mode) (code : Code) → place < length es → IsNext table es place m code → BeginsFirst m (drop place es) code
+  next_begins place m code inside next =
+      let after = place + code_count m code in
+      let (codes, more, first) = firsts (kept_cost table after (code_next m code)) after (code_next m code) (next_within place m code (omega arith) next) (omega arith) in
+      let (bits, whole) = next_first table es filled valid place m code inside next codes more first in
       (codes, bits, whole)
 
 -- bits that precede every spelling are one
@@ -107,12 +85,12 @@ first_once {codes = codes} {codes' = codes'} {bits = bits} {bits' = bits'} forme
 
 -- after the first latch of the mark, its second
 mark_second : {m : Mode} {codes : List Code} {bits : List Bool} {es : List Element} (rest : List Bool) → Spells m codes bits es → m ≡ Mixed
-    → bits ≡ code_bits Mixed 29 ++ rest → (codes' : List Code) × Spells Upper codes' rest es
-unfolding symbol_of table_of width_of
-mark_second rest nothing mixed is = absurd (omega (arith, ap length is, length-append (code_bits Mixed 29) rest, length-code_bits Mixed 29))
+    → bits ≡ number_bits Mixed 29 ++ rest → (codes' : List Code) × Spells Upper codes' rest es
+unfolding table_symbol code_table mode_width
+mark_second rest nothing mixed is = absurd (omega (arith, ap length is, length-append (number_bits Mixed 29) rest, length-number_bits Mixed 29))
 mark_second rest (onward {mode = m} {next = next} {code = code} {codes = codes} {bits = bits} {rest = more} {spelled = spelled} {elements = es} entry spells) mixed is =
     let here : Entry Mixed code bits spelled next = subst (λ (x : Mode). Entry x code bits spelled next) mixed entry in
-    let latched : Entry Mixed (Latch Upper) (code_bits Mixed 29) [] Upper = latch 29 refl in
+    let latched : Entry Mixed (Latch Upper) (number_bits Mixed 29) [] Upper = entry_of (latch 29 refl) in
     let (code_is, bits_is, silent, next_is, more_is) = one_reading more rest here latched is in (
       codes,
       subst (λ (x : Mode). Spells x codes rest (spelled ++ es)) next_is
@@ -123,20 +101,20 @@ mark_second rest (onward {mode = m} {next = next} {code = code} {codes = codes} 
 -- what follows the mark in a spelling spells all of it
 mark_spelled : {m : Mode} {codes : List Code} {bits : List Bool} {es : List Element} (rest : List Bool) → Spells m codes bits es → m ≡ Upper
     → bits ≡ append_mark ++ rest → (codes' : List Code) × Spells Upper codes' rest es
-unfolding symbol_of table_of width_of
+unfolding table_symbol code_table mode_width
 mark_spelled rest nothing upper is =
     absurd (omega (
       arith,
-      ap length (is ∙ ap (λ (b : List Bool). b ++ rest) append_mark-codes ∙ append_assoc (code_bits Upper 29) (code_bits Mixed 29) rest),
-      length-append (code_bits Upper 29) (code_bits Mixed 29 ++ rest),
-      length-code_bits Upper 29,
+      ap length (is ∙ ap (λ (b : List Bool). b ++ rest) append_mark-codes ∙ append_assoc (number_bits Upper 29) (number_bits Mixed 29) rest),
+      length-append (number_bits Upper 29) (number_bits Mixed 29 ++ rest),
+      length-number_bits Upper 29,
     ))
 mark_spelled rest (onward {mode = m} {next = next} {code = code} {codes = codes} {bits = bits} {rest = more} {spelled = spelled} {elements = es} entry spells) upper is =
     let here : Entry Upper code bits spelled next = subst (λ (x : Mode). Entry x code bits spelled next) upper entry in
-    let latched : Entry Upper (Latch Mixed) (code_bits Upper 29) [] Mixed = latch 29 refl in
-    let apart : bits ++ more ≡ code_bits Upper 29 ++ (code_bits Mixed 29 ++ rest) =
-    is ∙ ap (λ (b : List Bool). b ++ rest) append_mark-codes ∙ append_assoc (code_bits Upper 29) (code_bits Mixed 29) rest in
-    let (code_is, bits_is, silent, next_is, more_is) = one_reading more (code_bits Mixed 29 ++ rest) here latched apart in
+    let latched : Entry Upper (Latch Mixed) (number_bits Upper 29) [] Mixed = entry_of (latch 29 refl) in
+    let apart : bits ++ more ≡ number_bits Upper 29 ++ (number_bits Mixed 29 ++ rest) =
+    is ∙ ap (λ (b : List Bool). b ++ rest) append_mark-codes ∙ append_assoc (number_bits Upper 29) (number_bits Mixed 29) rest in
+    let (code_is, bits_is, silent, next_is, more_is) = one_reading more (number_bits Mixed 29 ++ rest) here latched apart in
     let (codes', after) = mark_second rest spells next_is more_is in
     (codes', subst (λ (xs : List Element). Spells Upper codes' rest (xs ++ es)) (sym silent) after)
 
@@ -150,9 +128,9 @@ unmarked es codes bits first (rest, is) =
       ap length is,
       length-append append_mark rest,
       ap length append_mark-codes,
-      length-append (code_bits Upper 29) (code_bits Mixed 29),
-      length-code_bits Upper 29,
-      length-code_bits Mixed 29,
+      length-append (number_bits Upper 29) (number_bits Mixed 29),
+      length-number_bits Upper 29,
+      length-number_bits Mixed 29,
       width_wide Upper,
     ))
 
@@ -199,17 +177,17 @@ path_start front es path valid is = record {
   draws = λ codes more first. (codes, more, ap (λ (cs : List Code). cs ++ codes) is, first);
 }
 
-pub path_step : (table : List Costs) (front : List Code) (es : List Element) (path longer : List Code) (m next : Mode) (place later : ℕ) (code : Code) → IsFilled table es
-    → IsPathTo front es path m place → place < length es → picked table place m (front_of (drop place es)) ≡ Some code
-    → longer ≡ path ++ code ∷ [] → next ≡ next_of m code → later ≡ place + count_of m code → IsPathTo front es longer next later
-path_step table front es path longer m next place later code filled to inside is longer_is next_is later_is =
+pub path_step : (table : List Costs) (front : List Code) (es : List Element) (path longer : List Code) (m next : Mode) (place later : ℕ) (code : Code) → IsFilledFrom table es 0
+    → IsPathTo front es path m place → place < length es → IsNext table es place m code
+    → longer ≡ path ++ code ∷ [] → next ≡ code_next m code → later ≡ place + code_count m code → IsPathTo front es longer next later
+path_step table front es path longer m next place later code filled to inside next_code longer_is next_is later_is =
     subst (λ (cs : List Code). IsPathTo front es cs next later) (sym longer_is)
     (subst (λ (x : Mode). IsPathTo front es (path ++ code ∷ []) x later) (sym next_is)
-    (subst (λ (p : ℕ). IsPathTo front es (path ++ code ∷ []) (next_of m code) p) (sym later_is) (record {
-      within = pick_within table es filled to.valid place m code to.within (picked-is table es place m code is);
+    (subst (λ (p : ℕ). IsPathTo front es (path ++ code ∷ []) (code_next m code) p) (sym later_is) (record {
+      within = next_within table es filled to.valid place m code to.within next_code;
       valid = to.valid;
       draws = λ codes more first.
-          let (bits, ends) = pick_first table es filled to.valid place m code inside (picked-is table es place m code is) codes more first in
+          let (bits, ends) = next_first table es filled to.valid place m code inside next_code codes more first in
           let (whole, all, apart, drawn) = to.draws (code ∷ codes) bits ends in
           (whole, all, append_assoc path (code ∷ []) codes ∙ apart, drawn);
     })))
@@ -223,12 +201,12 @@ path_ends append es path m place to past =
 -- the mark's codes before a spelling put the mark before its bits
 before_spelling : (append : Bool) (es : List Element) (codes : List Code) (bits : List Bool) → Spells Upper codes bits es
     → Spells Upper (mark_codes append ++ codes) (if append then append_mark ++ bits else bits) es
-unfolding mark_codes symbol_of table_of
+unfolding mark_codes table_symbol code_table
 before_spelling false es codes bits spells = spells
 before_spelling true es codes bits spells =
     subst (λ (b : List Bool). Spells Upper (Latch Mixed ∷ Latch Upper ∷ codes) b es)
-    (sym (append_assoc (code_bits Upper 29) (code_bits Mixed 29) bits) ∙ sym (ap (λ (b : List Bool). b ++ bits) append_mark-codes))
-    (onward (latch 29 refl) (onward (latch 29 refl) spells))
+    (sym (append_assoc (number_bits Upper 29) (number_bits Mixed 29) bits) ∙ sym (ap (λ (b : List Bool). b ++ bits) append_mark-codes))
+    (onward (entry_of (latch 29 refl)) (onward (entry_of (latch 29 refl)) spells))
 
 -- a drawn path spells the elements
 pub drawn_path-spells : (append : Bool) (es : List Element) (path : List Code) → IsDrawnPath append es path → IsPathOf Upper path es
@@ -263,15 +241,14 @@ drawn_path-bits append es path bits valid (codes, own, apart, first) only =
     })
 
 -- the next stand is nearer to the end, and inside the elements
-pub picked_nearer : (table : List Costs) (es : List Element) (m : Mode) (place : ℕ) (code : Code) → IsFilled table es → All IsElement es → place ≤ length es
-    → picked table place m (front_of (drop place es)) ≡ Some code
-    → (place + count_of m code ≤ length es) × (cost_at table (place + count_of m code) (next_of m code) < cost_at table place m)
-picked_nearer table es m place code filled valid within is =
-    let pick = picked-is table es place m code is in
-    (pick_within table es filled valid place m code within pick, pick_nearer table es filled valid place m code within pick)
+pub step_nearer : (table : List Costs) (es : List Element) (m : Mode) (place : ℕ) (code : Code) → IsFilledFrom table es 0 → All IsElement es → place ≤ length es
+    → IsNext table es place m code
+    → (place + code_count m code ≤ length es) × (kept_cost table (place + code_count m code) (code_next m code) < kept_cost table place m)
+step_nearer table es m place code filled valid within next =
+    (next_within table es filled valid place m code within next, next_nearer table es filled valid place m code next)
 
-pub nearer_after : (table : List Costs) (m next : Mode) (place later : ℕ) (code : Code) → later ≡ place + count_of m code → next ≡ next_of m code
-    → cost_at table (place + count_of m code) (next_of m code) < cost_at table place m → cost_at table later next < cost_at table place m
+pub nearer_after : (table : List Costs) (m next : Mode) (place later : ℕ) (code : Code) → later ≡ place + code_count m code → next ≡ code_next m code
+    → kept_cost table (place + code_count m code) (code_next m code) < kept_cost table place m → kept_cost table later next < kept_cost table place m
 nearer_after table m next place later code later_is next_is nearer =
-    subst (λ (p : ℕ). cost_at table p next < cost_at table place m) (sym later_is)
-    (subst (λ (x : Mode). cost_at table (place + count_of m code) x < cost_at table place m) (sym next_is) nearer)
+    subst (λ (p : ℕ). kept_cost table p next < kept_cost table place m) (sym later_is)
+    (subst (λ (x : Mode). kept_cost table (place + code_count m code) x < kept_cost table place m) (sym next_is) nearer)

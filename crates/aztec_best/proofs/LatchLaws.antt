@@ -2,7 +2,7 @@
 use Rattle.std.proofs.Common.{inl, inr, ◌≡◌, ℕ, ◌+◌, ◌≤◌, Bool, true, ◌&&◌, List, [], ◌∷◌, ◌++◌, length, refl, sym, subst, arith, append_assoc, nat_le}
 use Rattle.std.proofs.lemmas.List.{length-append}
 use Rattle.std.proofs.lemmas.Bool.{agree_below, agree_below_at, cases_lt, and_parts, leb-true}
-use Rattle.aztec_modes.proofs.TableFacts.{symbol_of-past, width_below}
+use Rattle.aztec_modes.proofs.TableFacts.{table_symbol-past, width_below}
 use Rattle.bar_base.specs.declared.element.Element.{Element}
 use Rattle.aztec_modes.specs.declared.mode.Mode.{Mode}
 use Rattle.aztec_modes.specs.declared.mode.Mode.TheVariants.{Upper, Lower, Mixed, Punct, Digit}
@@ -10,10 +10,10 @@ use Rattle.aztec_modes.specs.declared.code.Code.{Code}
 use Rattle.aztec_modes.specs.declared.code.Code.TheVariants.{Latch}
 use Rattle.aztec_modes.specs.declared.table.Symbol.{Symbol}
 use Rattle.aztec_modes.specs.declared.table.Symbol.TheVariants.{Absent, One, Two, LatchTo, ShiftTo, Binary, Flag}
-use Rattle.aztec_modes.specs.Codes.{symbol_of, table_of, width_of, code_bits}
-use Rattle.aztec_modes.specs.Entry.{latch}
+use Rattle.aztec_modes.specs.Codes.{table_symbol, code_table, mode_width, number_bits}
+use Rattle.aztec_modes.proofs.Forms.{latch, entry_of}
 use Rattle.aztec_modes.specs.Spelling.{Spells, onward}
-use Rattle.aztec_modes.proofs.EntryLaws.{length-code_bits}
+use Rattle.aztec_modes.proofs.EntryLaws.{length-number_bits}
 use Rattle.aztec_best.specs.Latches.{latch_bits}
 
 -- Latches that lead from a mode to another: put in front of a spelling from there, they make one from here.
@@ -27,18 +27,18 @@ stays : (mode : Mode) → Leads mode mode 0
 stays mode = record { codes = []; bits = []; counted = refl; spells = λ more rest elements s. s }
 
 -- one latch in front of latches
-after_latch : {mode next to : Mode} (number : ℕ) {count : ℕ} → symbol_of mode number ≡ LatchTo next → Leads next to count → Leads mode to (width_of mode + count)
+after_latch : {mode next to : Mode} (number : ℕ) {count : ℕ} → table_symbol mode number ≡ LatchTo next → Leads next to count → Leads mode to (mode_width mode + count)
 after_latch {mode = mode} {next = next} {to = to} number {count = count} is leads = record {
   codes = Latch next ∷ leads.codes;
-  bits = code_bits mode number ++ leads.bits;
-  counted = omega (arith, length-append (code_bits mode number) leads.bits, length-code_bits mode number, leads.counted);
+  bits = number_bits mode number ++ leads.bits;
+  counted = omega (arith, length-append (number_bits mode number) leads.bits, length-number_bits mode number, leads.counted);
   spells = λ more rest elements s.
-      subst (λ (b : List Bool). Spells mode (Latch next ∷ (leads.codes ++ more)) b elements) (sym (append_assoc (code_bits mode number) leads.bits rest))
-      (onward (latch number is) (leads.spells more rest elements s));
+      subst (λ (b : List Bool). Spells mode (Latch next ∷ (leads.codes ++ more)) b elements) (sym (append_assoc (number_bits mode number) leads.bits rest))
+      (onward (entry_of (latch number is)) (leads.spells more rest elements s));
 }
 
 pub leads : (mode to : Mode) → Leads mode to (latch_bits mode to)
-unfolding latch_bits symbol_of table_of width_of
+unfolding latch_bits table_symbol code_table mode_width
 leads Upper Upper = stays Upper
 leads Upper Lower = after_latch 28 refl (stays Lower)
 leads Upper Mixed = after_latch 29 refl (stays Mixed)
@@ -83,7 +83,7 @@ latch_bits-upper Digit = omega arith
 
 -- whether a latch from a mode, if the symbol is one, leads no nearer to any mode than the table says
 no_nearer_to : (mode next to : Mode) → Bool
-no_nearer_to mode next to = nat_le (latch_bits mode to) (width_of mode + latch_bits next to)
+no_nearer_to mode next to = nat_le (latch_bits mode to) (mode_width mode + latch_bits next to)
 
 no_nearer : Mode → Symbol → Bool
 no_nearer mode Absent = true
@@ -95,24 +95,24 @@ no_nearer mode (ShiftTo to) = true
 no_nearer mode Binary = true
 no_nearer mode Flag = true
 
-no_nearer_within : (mode : Mode) → agree_below (λ k. no_nearer mode (symbol_of mode k)) (λ k. true) 32 ≡ true
-unfolding no_nearer no_nearer_to latch_bits width_of symbol_of table_of
+no_nearer_within : (mode : Mode) → agree_below (λ k. no_nearer mode (table_symbol mode k)) (λ k. true) 32 ≡ true
+unfolding no_nearer no_nearer_to latch_bits mode_width table_symbol code_table
 no_nearer_within Upper = refl
 no_nearer_within Lower = refl
 no_nearer_within Mixed = refl
 no_nearer_within Punct = refl
 no_nearer_within Digit = refl
 
-no_nearer_at : (mode : Mode) (k : ℕ) → no_nearer mode (symbol_of mode k) ≡ true
+no_nearer_at : (mode : Mode) (k : ℕ) → no_nearer mode (table_symbol mode k) ≡ true
 unfolding no_nearer
 no_nearer_at mode k =
     elim (cases_lt k 32) [
-      | inl below ↦ agree_below_at (λ k. no_nearer mode (symbol_of mode k)) (λ k. true) 32 k (no_nearer_within mode) below
-      | inr past ↦ subst (λ (s : Symbol). no_nearer mode s ≡ true) (sym (symbol_of-past mode k (omega (arith, width_below mode)))) refl
+      | inl below ↦ agree_below_at (λ k. no_nearer mode (table_symbol mode k)) (λ k. true) 32 k (no_nearer_within mode) below
+      | inr past ↦ subst (λ (s : Symbol). no_nearer mode s ≡ true) (sym (table_symbol-past mode k (omega (arith, width_below mode)))) refl
     ]
 
 -- after one latch, the rest of the way is no shorter than the table allows
-pub latch_step : (mode next to : Mode) (k : ℕ) → symbol_of mode k ≡ LatchTo next → latch_bits mode to ≤ width_of mode + latch_bits next to
+pub latch_step : (mode next to : Mode) (k : ℕ) → table_symbol mode k ≡ LatchTo next → latch_bits mode to ≤ mode_width mode + latch_bits next to
 unfolding no_nearer no_nearer_to
 latch_step mode next to k is =
     let passes : no_nearer mode (LatchTo next) ≡ true = subst (λ (s : Symbol). no_nearer mode s ≡ true) is (no_nearer_at mode k) in
@@ -120,10 +120,10 @@ latch_step mode next to k is =
     let (three, punct) = and_parts _ _ four in
     let (two, mixed) = and_parts _ _ three in
     let (upper, lower) = and_parts _ _ two in
-    elim to as (λ x. latch_bits mode x ≤ width_of mode + latch_bits next x) [
-      | Upper ↦ leb-true (latch_bits mode Upper) (width_of mode + latch_bits next Upper) upper
-      | Lower ↦ leb-true (latch_bits mode Lower) (width_of mode + latch_bits next Lower) lower
-      | Mixed ↦ leb-true (latch_bits mode Mixed) (width_of mode + latch_bits next Mixed) mixed
-      | Punct ↦ leb-true (latch_bits mode Punct) (width_of mode + latch_bits next Punct) punct
-      | Digit ↦ leb-true (latch_bits mode Digit) (width_of mode + latch_bits next Digit) digit
+    elim to as (λ x. latch_bits mode x ≤ mode_width mode + latch_bits next x) [
+      | Upper ↦ leb-true (latch_bits mode Upper) (mode_width mode + latch_bits next Upper) upper
+      | Lower ↦ leb-true (latch_bits mode Lower) (mode_width mode + latch_bits next Lower) lower
+      | Mixed ↦ leb-true (latch_bits mode Mixed) (mode_width mode + latch_bits next Mixed) mixed
+      | Punct ↦ leb-true (latch_bits mode Punct) (mode_width mode + latch_bits next Punct) punct
+      | Digit ↦ leb-true (latch_bits mode Digit) (mode_width mode + latch_bits next Digit) digit
     ]

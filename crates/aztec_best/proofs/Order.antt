@@ -1,7 +1,7 @@
 -- Dictionary order and precedence of bits.
 use Rattle.std.proofs.Common.{◌≡◌, inl, inr, ◌≤◌, Bool, List, [], ◌∷◌, ◌++◌, length, refl, sym, ap, arith}
 use Rattle.std.proofs.lemmas.List.{length-append}
-use Rattle.aztec_modes.specs.Order.{IsBefore, differ, same}
+use Rattle.aztec_best.specs.Order.{IsBefore, differ, same}
 use Rattle.aztec_best.specs.Shortest.{Precedes}
 
 -- what follows does not change the order

@@ -1,7 +1,12 @@
+pub mod Order
 pub mod Shortest
-pub mod Below
-pub mod Latches
 pub mod Bench
-pub mod Search
+pub mod Front
+pub mod Latches
+pub mod Numbers
+pub mod Lows
+pub mod Runs
+pub mod Start
 pub mod Ready
+pub mod Picks
 pub mod DrawnPath

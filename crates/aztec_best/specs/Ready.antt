@@ -5,7 +5,7 @@ use Rattle.bar_base.specs.declared.element.Element.{Element}
 use Rattle.aztec_best.specs.declared.front.Front.{Front}
 use Rattle.aztec_best.specs.declared.costs.Costs.{Costs}
 use Rattle.aztec_best.specs.Bench.{IsFilledFrom}
-use Rattle.aztec_best.specs.Search.{front_of}
+use Rattle.aztec_best.specs.Front.{front_of}
 
 -- The place is one of the elements, what stands there is known, and so are the fewest bits of every later rest.
 pub record IsReady (table : List Costs) (elements : List Element) (place : ℕ) (front : Front) : Type 0 where

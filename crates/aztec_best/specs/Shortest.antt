@@ -4,7 +4,7 @@ use Rattle.std.specs.Prelude.{◌≡◌, ◌⊎◌, ◌<◌, ◌≤◌, ℕ, Boo
 use Rattle.bar_base.specs.declared.element.Element.{Element}
 use Rattle.aztec_modes.specs.declared.mode.Mode.{Mode}
 use Rattle.aztec_modes.specs.declared.code.Code.{Code}
-use Rattle.aztec_modes.specs.Order.{IsBefore}
+use Rattle.aztec_best.specs.Order.{IsBefore}
 use Rattle.aztec_modes.specs.Spelling.{Spells, SpelledBy, IsSpelling}
 
 -- Bits that precede others are shorter, or as long and the same, or as long and before them in dictionary order, 0 before 1.

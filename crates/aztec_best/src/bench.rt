@@ -1,55 +1,90 @@
-ghost use Rattle.std.specs.Prelude.{◌≡◌, ◌<◌, ◌≤◌, List, Some, drop, length, IfOk};
+ghost use Rattle.std.specs.Prelude.{◌≡◌, ◌<◌, ◌≤◌, ◌+◌, List, drop, length, IfOk, Ok, vec_capacity};
 ghost use Rattle.aztec_modes.specs.declared.mode.Mode.TheVariants.{Upper};
 ghost use Rattle.aztec_best.specs.declared.costs.Costs.{Costs as CostsValue};
-ghost use Rattle.aztec_best.specs.Bench.{IsFilled};
+ghost use Rattle.aztec_best.specs.Bench.{IsFilled, padded};
 ghost use Rattle.aztec_best.specs.Shortest.{IsLeast, BeginsFirst};
-ghost use Rattle.aztec_best.specs.Search.{picked, front_of};
+ghost use Rattle.aztec_best.specs.declared.limit.TheConstants.{MOST_ELEMENTS};
 
 use crate::costs::Costs;
-use crate::fill::fill;
+use crate::fill::{NO_COSTS, fill};
+use crate::limit::MOST_ELEMENTS;
+use crate::lows::{Lows, NO_LOWS};
 use crate::pick::next_code;
 use crate::stand::Stand;
 use aztec_modes::Code;
 use bar_base::{Elements, NoMemory};
-use std::alloc::Global;
+use std::alloc::{AllocError, Global};
 use std::marker::Model;
-
-/// The most elements of a message that a bench takes.
-pub const MOST_ELEMENTS: usize = 8192;
 
 /// The places of a bench: before each element, and after the last.
 const PLACES: usize = MOST_ELEMENTS + 1;
+
+/// The numbers of bytes of a run in the short form, and in the long one.
+const SHORT_RUNS: usize = 31;
+
+const LONG_RUNS: usize = 2048;
 
 /// The tables of the search for the shortest spelling of up to 8,192 elements.
 #[derive(Drop)]
 pub struct Bench {
     costs: Vec<Costs>,
+    shorts: Vec<Lows>,
+    longs: Vec<Lows>,
 }
 
 impl Model for Bench {
     ghost Value = { List CostsValue };
 
-    ghost view = { λ b. b.costs.items };
+    ghost view = { λ b. padded b.costs.items };
 
-    ghost invariant = { λ b. length b.costs.items ≡ 8193 };
+    ghost invariant = { λ b. record {
+      costs : length b.costs.items ≤ MOST_ELEMENTS + 1;
+      reserved : MOST_ELEMENTS + 1 ≤ vec_capacity b.costs;
+      shorts : length b.shorts.items ≡ 31;
+      longs : length b.longs.items ≡ 2048;
+    } };
 }
 
 impl Bench {
     /// Reserves the tables for 8,192 elements at once, about 330 kB. Afterwards `shortest` and `path_next` take no memory. The only
     /// refusal is want of memory.
     pub fn new(alloc: Global) -> Result<Bench, NoMemory>
-        ensures reserved { IfOk result (λ bench. length bench ≡ 8193) }
+        ensures reserved { IfOk result (λ bench. length bench ≡ MOST_ELEMENTS + 1) }
     {
-        match vec![in alloc; Costs {
-            upper: 0,
-            lower: 0,
-            mixed: 0,
-            punct: 0,
-            digit: 0
-        }; PLACES]
-        {
-            Ok(costs) => Ok(Bench { costs }),
-            Err(_) => Err(NoMemory),
+        let costs = listed(Vec::with_capacity(alloc, PLACES))?;
+        let shorts = listed(vec![in alloc; NO_LOWS; SHORT_RUNS])?;
+        let longs = listed(vec![in alloc; NO_LOWS; LONG_RUNS])?;
+        Ok(Bench {
+            costs,
+            shorts,
+            longs,
+        })
+    }
+}
+
+/// The list, or that there was no memory for it.
+fn listed<T>(made: Result<Vec<T>, AllocError>) -> Result<Vec<T>, NoMemory>
+    ensures { IfOk result (λ list. made ≡ Ok list) }
+{
+    match made {
+        Ok(list) => Ok(list),
+        Err(_) => Err(NoMemory),
+    }
+}
+
+/// Makes so many rows, for which there is room.
+fn make_rows(costs: &mut Vec<Costs>, count: usize)
+    requires few { count ≤ MOST_ELEMENTS + 1 }
+    requires shorter { length costs.old.items ≤ MOST_ELEMENTS + 1 }
+    requires reserved { MOST_ELEMENTS + 1 ≤ vec_capacity costs.old }
+    ensures made { count ≤ length costs.new.items }
+    ensures shorter { length costs.new.items ≤ MOST_ELEMENTS + 1 }
+    ensures reserved { MOST_ELEMENTS + 1 ≤ vec_capacity costs.new }
+{
+    while costs.len() < count {
+        match costs.push(NO_COSTS) {
+            Ok(()) => {}
+            Err(_) => unreachable!(),
         }
     }
 }
@@ -61,16 +96,20 @@ pub fn shortest(bench: &mut Bench, elements: &Elements) -> u64
     ensures fewest { IsLeast Upper elements.now result }
     ensures filled { IsFilled bench.new elements.now }
 {
-    fill(&mut bench.costs, elements)
+    make_rows(&mut bench.costs, elements.len() + 1);
+    fill(
+        &mut bench.costs,
+        &mut bench.shorts,
+        &mut bench.longs,
+        elements,
+    )
 }
 
-/// The code that the search takes next.
-pub(crate) fn step(bench: &Bench, elements: &Elements, at: Stand) -> Code
-    requires filled { IsFilled bench.now elements.now }
-    requires within { at.place < length elements.now }
-    ensures { picked bench.now at.place at.mode (front_of (drop at.place elements.now)) ≡ Some result }
+/// The rows of the bench that are in use.
+pub(crate) fn rows(bench: &Bench) -> &[Costs]
+    ensures { padded result.now ≡ bench.now }
 {
-    next_code(&bench.costs, elements, at)
+    &bench.costs
 }
 
 /// The first code of the first spelling of the rest: of all spellings of the elements from the place on, from the mode on, it begins the
@@ -82,5 +121,5 @@ pub fn path_next(bench: &Bench, elements: &Elements, at: Stand) -> Code
     ensures first { BeginsFirst at.mode (drop at.place elements.now) result }
 {
     let _count = elements.len();
-    step(bench, elements, at)
+    next_code(rows(bench), elements, at)
 }

@@ -1,9 +1,10 @@
-/// The fewest bits of the rest of the elements from a place on, from each mode.
+/// What is kept for a place: the fewest bits of the rest of the elements from it on, from each mode, and how many bytes stand there.
 #[derive(Clone, Copy)]
 pub(crate) struct Costs {
-    pub(crate) upper: u64,
-    pub(crate) lower: u64,
-    pub(crate) mixed: u64,
-    pub(crate) punct: u64,
-    pub(crate) digit: u64,
+    pub(crate) upper: u32,
+    pub(crate) lower: u32,
+    pub(crate) mixed: u32,
+    pub(crate) punct: u32,
+    pub(crate) digit: u32,
+    pub(crate) bytes: u32,
 }

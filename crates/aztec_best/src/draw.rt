@@ -1,24 +1,27 @@
 ghost use Rattle.std.specs.Prelude.{◌≡◌, ◌<◌, ◌≤◌, ◌+◌, ◌*◌, ◌^◌, List, Bool, length, IfOk};
-ghost use Rattle.aztec_modes.specs.Numbers.{count_of, next_of};
-ghost use Rattle.aztec_best.specs.Bench.{IsFilled};
+ghost use Rattle.aztec_modes.specs.Entry.{code_count, code_next};
+ghost use Rattle.aztec_best.specs.Bench.{IsFilledFrom};
 ghost use Rattle.aztec_best.specs.Shortest.{IsDrawn, IsFewest};
 ghost use Rattle.aztec_best.specs.DrawnPath.{mark_codes, IsDrawnPath};
 
-use crate::bench::{Bench, MOST_ELEMENTS, shortest, step};
+use crate::bench::{Bench, rows, shortest};
+use crate::costs::Costs;
+use crate::limit::MOST_ELEMENTS;
+use crate::pick::next_code;
 use crate::stand::Stand;
-use aztec_modes::{Code, Mode, Path, count, next_mode, spell};
+use aztec_modes::{Code, Mode, Path, code_count, code_next, spell};
 use bar_base::{Bits, Elements, NoMemory};
 use std::alloc::Global;
 
 /// The stand after a code.
 fn stand_after(at: Stand, code: Code) -> Stand
-    requires { at.place + count_of at.mode code < 2 ^ 32 }
-    ensures mode { result.mode ≡ next_of at.mode code }
-    ensures place { result.place ≡ at.place + count_of at.mode code }
+    requires { at.place + code_count at.mode code < 2 ^ 32 }
+    ensures mode { result.mode ≡ code_next at.mode code }
+    ensures place { result.place ≡ at.place + code_count at.mode code }
 {
     Stand {
-        mode: next_mode(at.mode, code),
-        place: at.place + count(at.mode, code),
+        mode: code_next(at.mode, code),
+        place: at.place + code_count(at.mode, code),
     }
 }
 
@@ -39,11 +42,11 @@ fn path_before(alloc: Global, append: bool) -> Result<Path, NoMemory>
 /// The codes of the drawn bits.
 fn drawn_path(
     alloc: Global,
-    bench: &Bench,
+    costs: &[Costs],
     append: bool,
     elements: &Elements,
 ) -> Result<Path, NoMemory>
-    requires { IsFilled bench.now elements.now }
+    requires { IsFilledFrom costs.now elements.now 0 }
     ensures { IfOk result (λ path. IsDrawnPath append elements.now path) }
 {
     let length = elements.len();
@@ -53,7 +56,7 @@ fn drawn_path(
         place: 0,
     };
     while (at.place as usize) < length {
-        let code = step(bench, elements, at);
+        let code = next_code(costs, elements, at);
         path.push(code)?;
         at = stand_after(at, code);
     }
@@ -78,7 +81,7 @@ pub fn drawn(
 {
     let _count = elements.len();
     let _fewest = shortest(bench, elements);
-    let path = drawn_path(alloc, bench, append, elements)?;
+    let path = drawn_path(alloc, rows(bench), append, elements)?;
     let bits = spell(alloc, &path, elements)?;
     Ok(bits)
 }

@@ -6,16 +6,22 @@ mod cheapest;
 mod costs;
 mod draw;
 mod fill;
-mod fits;
 mod front;
+mod limit;
+mod lows;
+mod numbers;
 mod pick;
+mod pick_run;
+mod runs;
 mod settle;
 mod stand;
 mod starts;
 mod table;
+mod window;
 
-pub use bench::{Bench, MOST_ELEMENTS, path_next, shortest};
+pub use bench::{Bench, path_next, shortest};
 pub use draw::drawn;
+pub use limit::MOST_ELEMENTS;
 pub use stand::Stand;
 
 #[cfg(test)]

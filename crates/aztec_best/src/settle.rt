@@ -1,24 +1,26 @@
-ghost use Rattle.std.specs.Prelude.{◌≡◌, ◌<◌, ◌^◌, drop};
-ghost use Rattle.std.specs.Option.{ForSome};
+ghost use Rattle.std.specs.Prelude.{◌≡◌, ◌<◌, ◌≤◌, ◌+◌, drop, length};
 ghost use Rattle.aztec_modes.specs.declared.mode.Mode.{Mode as ModeValue};
-ghost use Rattle.aztec_best.specs.Below.{more};
 ghost use Rattle.aztec_best.specs.Latches.{latch_bits};
 ghost use Rattle.aztec_best.specs.Bench.{mode_cost};
 ghost use Rattle.aztec_best.specs.Ready.{IsReady};
-ghost use Rattle.aztec_best.specs.Search.{cheapest, settled, start_of};
+ghost use Rattle.aztec_best.specs.Runs.{AreRunStarts};
+ghost use Rattle.aztec_best.specs.Start.{data_start, start_in, settled, start_of};
+ghost use Rattle.aztec_best.specs.Front.{bytes_ahead};
 ghost use Rattle.aztec_best.specs.Shortest.{IsLeast};
 
-use crate::cheapest::{cheapest_start, lesser_of};
 use crate::costs::Costs;
 use crate::front::Front;
-use crate::stand::Stand;
+use crate::lows::Lows;
+use crate::numbers::{has_pair, punct_length, single_length};
 use crate::starts::Starts;
+use crate::table::kept;
 use aztec_modes::Mode;
 use bar_base::Elements;
 
 /// The fewest bits of latches from a mode to another.
 #[tactic(auto, unfolding(crate::specs::Latches::latch_bits))]
-fn bits_of_latches(mode: Mode, to: Mode) -> u64
+#[inline(always)]
+fn bits_of_latches(mode: Mode, to: Mode) -> u32
     ensures value { result ≡ latch_bits mode to }
     ensures small { result < 15 }
 {
@@ -51,119 +53,104 @@ fn bits_of_latches(mode: Mode, to: Mode) -> u64
     }
 }
 
-/// The bits of latches to a mode and of what begins there.
-#[tactic(auto, unfolding(crate::specs::Below::more))]
-fn latched(mode: Mode, to: Mode, start: Option<u64>) -> Option<u64>
-    requires { ForSome start (λ bits. bits < 2 ^ 40) }
-    ensures { result ≡ more (latch_bits mode to) start }
-{
-    let bits = start?;
-    Some(bits_of_latches(mode, to) + bits)
-}
-
 /// The fewest bits from a mode on, by latches to a mode and what begins there.
-#[tactic(auto, unfolding(crate::specs::Search::settled, crate::specs::Search::start_of))]
-fn settled_bits(mode: Mode, starts: &Starts) -> Option<u64>
-    requires { (to : ModeValue) → ForSome (start_of starts.now to) (λ bits. bits < 2 ^ 40) }
+#[tactic(auto, unfolding(crate::specs::Start::settled, crate::specs::Start::start_of))]
+#[inline(always)]
+fn settled_bits(mode: Mode, starts: &Starts) -> u32
+    requires { (to : ModeValue) → start_of starts.now to ≤ 2000000000 }
     ensures { result ≡ settled mode (start_of starts.now) }
 {
-    let punct_or_digit = lesser_of(
-        latched(mode, Mode::Punct, starts.punct),
-        latched(mode, Mode::Digit, starts.digit),
-    );
-    let from_mixed = lesser_of(latched(mode, Mode::Mixed, starts.mixed), punct_or_digit);
-    let from_lower = lesser_of(latched(mode, Mode::Lower, starts.lower), from_mixed);
-    lesser_of(latched(mode, Mode::Upper, starts.upper), from_lower)
+    let upper = bits_of_latches(mode, Mode::Upper) + starts.upper;
+    let lower = bits_of_latches(mode, Mode::Lower) + starts.lower;
+    let mixed = bits_of_latches(mode, Mode::Mixed) + starts.mixed;
+    let punct = bits_of_latches(mode, Mode::Punct) + starts.punct;
+    let digit = bits_of_latches(mode, Mode::Digit) + starts.digit;
+    upper.min(lower.min(mixed.min(punct.min(digit))))
+}
+
+/// The fewest bits from a mode on that begin with a code, other than a run, which spells something.
+#[tactic(auto, unfolding(crate::specs::Start::data_start))]
+#[inline(always)]
+fn data_start(costs: &[Costs], elements: &Elements, place: usize, mode: Mode, front: &Front) -> u32
+    requires { IsReady costs.now elements.now place front.now }
+    ensures value { result ≡ data_start costs.now place mode front.now }
+    ensures small { result ≤ 1100000000 }
+{
+    let single = single_length(mode, front.first) + kept(costs, place + 1, mode);
+    if has_pair(front.first, front.second) {
+        single.min(punct_length(mode) + kept(costs, place + 2, mode))
+    } else {
+        single
+    }
 }
 
 /// What begins in each mode with a code that spells something.
-#[tactic(auto, unfolding(crate::specs::Search::start_of))]
-fn starts_at(costs: &[Costs], elements: &Elements, place: u32, front: &Front) -> Starts
+#[tactic(auto, unfolding(crate::specs::Start::start_of, crate::specs::Start::start_in))]
+fn starts_at(
+    costs: &[Costs],
+    elements: &Elements,
+    place: usize,
+    front: &Front,
+    runs: Lows,
+) -> Starts
     requires { IsReady costs.now elements.now place front.now }
-    ensures value { (mode : ModeValue) → start_of result mode ≡ cheapest costs.now place mode front.now }
-    ensures small { (mode : ModeValue) → ForSome (start_of result mode) (λ bits. bits < 2 ^ 40) }
+    ensures value { (mode : ModeValue) → start_of result mode ≡ start_in costs.now place mode front.now runs }
+    ensures small { (mode : ModeValue) → start_of result mode ≤ 1100000000 }
 {
+    let upper = data_start(costs, elements, place, Mode::Upper, front);
+    let lower = data_start(costs, elements, place, Mode::Lower, front);
+    let mixed = data_start(costs, elements, place, Mode::Mixed, front);
     Starts {
-        upper: cheapest_start(
-            costs,
-            elements,
-            Stand {
-                mode: Mode::Upper,
-                place,
-            },
-            front,
-        ),
-        lower: cheapest_start(
-            costs,
-            elements,
-            Stand {
-                mode: Mode::Lower,
-                place,
-            },
-            front,
-        ),
-        mixed: cheapest_start(
-            costs,
-            elements,
-            Stand {
-                mode: Mode::Mixed,
-                place,
-            },
-            front,
-        ),
-        punct: cheapest_start(
-            costs,
-            elements,
-            Stand {
-                mode: Mode::Punct,
-                place,
-            },
-            front,
-        ),
-        digit: cheapest_start(
-            costs,
-            elements,
-            Stand {
-                mode: Mode::Digit,
-                place,
-            },
-            front,
-        ),
+        upper: upper.min(runs.upper),
+        lower: lower.min(runs.lower),
+        mixed: mixed.min(runs.mixed),
+        punct: data_start(costs, elements, place, Mode::Punct, front),
+        digit: data_start(costs, elements, place, Mode::Digit, front),
     }
 }
 
 /// The fewest bits from a mode on.
+#[inline(always)]
 fn least_from(
     costs: &[Costs],
     elements: &Elements,
-    place: u32,
+    place: usize,
     front: &Front,
+    runs: Lows,
     starts: &Starts,
     mode: Mode,
-) -> u64
+) -> u32
     requires ready { IsReady costs.now elements.now place front.now }
-    requires cheapest { (from : ModeValue) → start_of starts.now from ≡ cheapest costs.now place from front.now }
-    requires small { (from : ModeValue) → ForSome (start_of starts.now from) (λ bits. bits < 2 ^ 40) }
+    requires runs { AreRunStarts costs.now place (bytes_ahead (drop place elements.now)) runs }
+    requires starts { (from : ModeValue) → start_of starts.now from ≡ start_in costs.now place from front.now runs }
+    requires small { (from : ModeValue) → start_of starts.now from ≤ 1100000000 }
     ensures { IsLeast mode (drop place elements.now) result }
 {
-    match settled_bits(mode, starts) {
-        Some(bits) => bits,
-        None => unreachable!(),
-    }
+    settled_bits(mode, starts)
 }
 
-/// The fewest bits from each mode on.
+/// What is kept for a place: the fewest bits from each mode on, and the number of bytes.
 #[tactic(auto, unfolding(crate::specs::Bench::mode_cost))]
-pub(crate) fn costs_at(costs: &[Costs], elements: &Elements, place: u32, front: &Front) -> Costs
-    requires { IsReady costs.now elements.now place front.now }
-    ensures { (mode : ModeValue) → IsLeast mode (drop place elements.now) (mode_cost result mode) }
+pub(crate) fn costs_at(
+    costs: &[Costs],
+    elements: &Elements,
+    place: usize,
+    front: &Front,
+    runs: Lows,
+    bytes: u32,
+) -> Costs
+    requires ready { IsReady costs.now elements.now place front.now }
+    requires runs { AreRunStarts costs.now place (bytes_ahead (drop place elements.now)) runs }
+    ensures least { (mode : ModeValue) → IsLeast mode (drop place elements.now) (mode_cost result mode) }
+    ensures bytes { result.bytes ≡ bytes }
 {
-    let starts = starts_at(costs, elements, place, front);
+    let starts = starts_at(costs, elements, place, front, runs);
     Costs {
-        upper: least_from(costs, elements, place, front, &starts, Mode::Upper),
-        lower: least_from(costs, elements, place, front, &starts, Mode::Lower),
-        mixed: least_from(costs, elements, place, front, &starts, Mode::Mixed),
-        punct: least_from(costs, elements, place, front, &starts, Mode::Punct),
-        digit: least_from(costs, elements, place, front, &starts, Mode::Digit),
+        upper: least_from(costs, elements, place, front, runs, &starts, Mode::Upper),
+        lower: least_from(costs, elements, place, front, runs, &starts, Mode::Lower),
+        mixed: least_from(costs, elements, place, front, runs, &starts, Mode::Mixed),
+        punct: least_from(costs, elements, place, front, runs, &starts, Mode::Punct),
+        digit: least_from(costs, elements, place, front, runs, &starts, Mode::Digit),
+        bytes,
     }
 }

@@ -1,9 +1,9 @@
-/// The fewest bits that begin with a code which spells something, in each mode; None where there is no such code.
+/// The fewest bits that begin with a code which spells something, in each mode; at least 2 to the power 30 where there is no such code.
 #[derive(Clone, Copy)]
 pub(crate) struct Starts {
-    pub(crate) upper: Option<u64>,
-    pub(crate) lower: Option<u64>,
-    pub(crate) mixed: Option<u64>,
-    pub(crate) punct: Option<u64>,
-    pub(crate) digit: Option<u64>,
+    pub(crate) upper: u32,
+    pub(crate) lower: u32,
+    pub(crate) mixed: u32,
+    pub(crate) punct: u32,
+    pub(crate) digit: u32,
 }

@@ -1,12 +1,14 @@
-ghost use Rattle.std.specs.Prelude.{◌≡◌, ◌<◌, length};
-ghost use Rattle.aztec_best.specs.Bench.{mode_cost, cost_at};
+ghost use Rattle.std.specs.Prelude.{◌≡◌};
+ghost use Rattle.aztec_best.specs.Bench.{mode_cost, kept_cost, kept_bytes};
 
 use crate::costs::Costs;
+use crate::fill::NO_COSTS;
 use aztec_modes::Mode;
 
 /// The cost kept for a mode.
 #[tactic(auto, unfolding(crate::specs::Bench::mode_cost))]
-fn cost_in(costs: &Costs, mode: Mode) -> u64
+#[inline(always)]
+fn cost_in(costs: &Costs, mode: Mode) -> u32
     ensures { result ≡ mode_cost costs.now mode }
 {
     match mode {
@@ -18,11 +20,25 @@ fn cost_in(costs: &Costs, mode: Mode) -> u64
     }
 }
 
-/// The cost kept for a place and a mode.
-#[tactic(auto, unfolding(crate::specs::Bench::cost_at))]
-pub(crate) fn kept(costs: &[Costs], place: usize, mode: Mode) -> u64
-    requires { place < length costs.now }
-    ensures { result ≡ cost_at costs.now place mode }
+/// The cost kept for a place and a mode, 0 past the last place.
+#[tactic(auto, unfolding(crate::specs::Bench::kept_cost))]
+#[inline(always)]
+pub(crate) fn kept(costs: &[Costs], place: usize, mode: Mode) -> u32
+    ensures { result ≡ kept_cost costs.now place mode }
 {
-    cost_in(&costs[place], mode)
+    match costs.get(place) {
+        Some(costs) => cost_in(costs, mode),
+        None => cost_in(&NO_COSTS, mode),
+    }
+}
+
+/// The number of bytes kept for a place, 0 past the last place.
+#[tactic(auto, unfolding(crate::specs::Bench::kept_bytes))]
+pub(crate) fn bytes_kept(costs: &[Costs], place: usize) -> u32
+    ensures { result ≡ kept_bytes costs.now place }
+{
+    match costs.get(place) {
+        Some(costs) => costs.bytes,
+        None => 0,
+    }
 }

@@ -1,5 +1,6 @@
-use crate::bench::{Bench, MOST_ELEMENTS, path_next, shortest};
+use crate::bench::{Bench, path_next, shortest};
 use crate::draw::drawn;
+use crate::limit::MOST_ELEMENTS;
 use crate::stand::Stand;
 use aztec_modes::{Code, Mode};
 use bar_base::{Bits, Element, Elements, NoMemory};

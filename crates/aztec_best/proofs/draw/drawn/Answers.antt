@@ -1,5 +1,9 @@
 use Rattle.aztec_best.proofs.Drawing.{drawn_path-spells, drawn_path-bits, drawn_fewest, drawn_once}
+use Rattle.aztec_best.proofs.Small.{filled_rows}
 use Rattle.aztec_best.proofs.draw.drawn.Goals as goal
+
+pub drawn_path-requires : goal.drawn_path-requires
+drawn_path-requires c = filled_rows c.rows.result.now c.shortest-fewest.new.bench c.args.elements.now 0 c.rows.ensures c.shortest-fewest.ensures.filled.1
 
 pub spell-requires : goal.spell-requires
 spell-requires c = drawn_path-spells c.args.append c.args.elements.now c.in_ok-path.path c.in_ok-path.ensures

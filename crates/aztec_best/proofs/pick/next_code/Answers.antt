@@ -1,6 +1,5 @@
-use Rattle.std.proofs.Common.{ap}
-use Rattle.aztec_best.specs.Search.{picked}
-use Rattle.aztec_best.proofs.PickLaws.{picked-there}
+use Rattle.std.proofs.Common.{arith}
+use Rattle.aztec_best.proofs.NextCodes.{cheapest_there, rank_few}
 use Rattle.aztec_best.proofs.Small.{filled_through}
 use Rattle.aztec_best.proofs.pick.next_code.Goals as goal
 
@@ -14,6 +13,5 @@ pick-requires-clause-ready c = record {
 
 pub unreachable-requires : goal.unreachable-requires
 unreachable-requires c =
-    let (code, there) = picked-there c.args.costs.now c.args.elements.now c.requires.filled c.len-len.ensures.elements c.args.at.place c.args.at.mode c.requires.within in
-    let same = ap (picked c.args.costs.now c.args.at.place c.args.at.mode) c.front_at-front.ensures in
-    cc
+    let (code, cheap) = cheapest_there c.args.costs.now c.args.elements.now c.requires.filled c.len-len.ensures.elements c.args.at.place c.args.at.mode c.requires.within in
+    c.in-None.ensures code cheap (omega arith, rank_few cheap.front)

@@ -1,18 +1,26 @@
-use Rattle.std.proofs.Common.{◌∙◌, sym, arith}
-use Rattle.aztec_best.specs.Search.{pick_under, picked}
-use Rattle.aztec_best.proofs.BelowLaws.{first_start, first_more, first_found}
+use Rattle.std.proofs.Common.{◌*◌, subst, arith, Option, None}
+use Rattle.aztec_modes.specs.declared.code.Code.{Code}
+use Rattle.aztec_best.specs.Numbers.{controls_from}
+use Rattle.aztec_best.specs.Picks.{IsPick, HasRank}
+use Rattle.aztec_best.proofs.ByteLaws.{tail_few}
+use Rattle.aztec_best.proofs.Picks.{pick_before, pick_behind, pick_found}
 use Rattle.aztec_best.proofs.pick.pick.Goals as goal
 
-pub loop-first-init : goal.loop-first-init
-loop-first-init c = first_start _
-
 pub returns-in-Some : goal.returns-in-Some
-unfolding picked
 returns-in-Some c =
-    sym (first_found 32 c.loop-first.first (pick_under c.args.costs.now c.args.at.place c.args.at.mode c.args.front.now) c.in-Some.found
-    c.loop-first.invariant (omega arith) (sym c.pick_of.ensures ∙ c.in-Some.is))
+    pick_before c.args.costs.now c.args.elements.now c.args.at.place c.args.at.mode 0 4096 (32 * 4096) c.in-Some.found (omega arith)
+    (subst (λ (o : Option Code). IsPick c.args.costs.now c.args.elements.now c.args.at.place c.args.at.mode (HasRank c.args.at.mode 0 4096) o) c.in-Some.is c.pick_zero.ensures)
 
-pub loop-first-preserved : goal.loop-first-preserved
-loop-first-preserved c =
-    first_more c.loop-first.first (pick_under c.args.costs.now c.args.at.place c.args.at.mode c.args.front.now) c.loop-first.invariant
-    (sym c.pick_of.ensures ∙ c.in-None.is)
+pub returns-in-Some-pick_plain : goal.returns-in-Some-pick_plain
+returns-in-Some-pick_plain c =
+    pick_found c.args.costs.now c.args.elements.now c.args.at.place c.args.at.mode 0 4096 (controls_from c.args.at.mode * 4096) (32 * 4096) c.in-Some-pick_plain.found (omega arith) (omega (arith, (tail_few c.args.at.mode).1))
+    (subst (λ (o : Option Code). IsPick c.args.costs.now c.args.elements.now c.args.at.place c.args.at.mode (HasRank c.args.at.mode 0 4096) o) c.in-None.is c.pick_zero.ensures)
+    (subst (λ (o : Option Code). IsPick c.args.costs.now c.args.elements.now c.args.at.place c.args.at.mode (HasRank c.args.at.mode 4096 (controls_from c.args.at.mode * 4096)) o) c.in-Some-pick_plain.is c.pick_plain.ensures)
+
+pub returns : goal.returns
+returns c =
+    pick_behind c.args.costs.now c.args.elements.now c.args.at.place c.args.at.mode 0 (controls_from c.args.at.mode * 4096) (32 * 4096) c.pick_controls.result (omega arith)
+    (pick_behind c.args.costs.now c.args.elements.now c.args.at.place c.args.at.mode 0 4096 (controls_from c.args.at.mode * 4096) None (omega arith)
+    (subst (λ (o : Option Code). IsPick c.args.costs.now c.args.elements.now c.args.at.place c.args.at.mode (HasRank c.args.at.mode 0 4096) o) c.in-None.is c.pick_zero.ensures)
+    (subst (λ (o : Option Code). IsPick c.args.costs.now c.args.elements.now c.args.at.place c.args.at.mode (HasRank c.args.at.mode 4096 (controls_from c.args.at.mode * 4096)) o) c.in-None-pick_plain.is c.pick_plain.ensures))
+    c.pick_controls.ensures

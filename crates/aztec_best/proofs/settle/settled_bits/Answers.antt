@@ -1,23 +1,24 @@
+use Rattle.std.proofs.Common.{arith}
 use Rattle.aztec_modes.specs.declared.mode.Mode.TheVariants.{Upper, Lower, Mixed, Punct, Digit}
-use Rattle.aztec_best.specs.Search.{start_of}
+use Rattle.aztec_best.specs.Start.{start_of}
 use Rattle.aztec_best.proofs.settle.settled_bits.Goals as goal
 
-pub latched-requires : goal.latched-requires
+pub overflow_add-upper : goal.overflow_add-upper
 unfolding start_of
-latched-requires c = c.requires Punct
+overflow_add-upper c = omega (arith, c.requires Upper)
 
-pub latched-requires-2 : goal.latched-requires-2
+pub overflow_add-lower : goal.overflow_add-lower
 unfolding start_of
-latched-requires-2 c = c.requires Digit
+overflow_add-lower c = omega (arith, c.requires Lower)
 
-pub latched-requires-3 : goal.latched-requires-3
+pub overflow_add-mixed : goal.overflow_add-mixed
 unfolding start_of
-latched-requires-3 c = c.requires Mixed
+overflow_add-mixed c = omega (arith, c.requires Mixed)
 
-pub latched-requires-4 : goal.latched-requires-4
+pub overflow_add-punct : goal.overflow_add-punct
 unfolding start_of
-latched-requires-4 c = c.requires Lower
+overflow_add-punct c = omega (arith, c.requires Punct)
 
-pub latched-requires-5 : goal.latched-requires-5
+pub overflow_add-digit : goal.overflow_add-digit
 unfolding start_of
-latched-requires-5 c = c.requires Upper
+overflow_add-digit c = omega (arith, c.requires Digit)
