@@ -4,7 +4,7 @@ use Rattle.std.specs.Prelude.{◌&&◌, ◌||◌, ◌==◌, nat_lt}
 use Rattle.std.proofs.lemmas.Bool.{cases_Bool, cases_lt}
 use Rattle.std.proofs.lemmas.Bool.Decides.{nat_tests}
 use Rattle.std.specs.Int.{abs_diff}
-use Rattle.aztec_layout.specs.Core.{distance, is_core, is_dark_core, is_dark_finder, is_dark_fixed, is_dark_mark, is_dark_reference, is_finder, is_light_mark, is_reference, mode_place, mode_run, rim_of}
+use Rattle.aztec_layout.specs.Core.{ring_of, is_core, is_dark_core, is_dark_finder, is_dark_fixed, is_dark_mark, is_dark_reference, is_finder, is_light_mark, is_reference, mode_place, mode_run, rim_of}
 use Rattle.aztec_layout.proofs.Spots.{off_lines}
 
 -- how far a module of the mode message lies from the lines through the centre
@@ -121,7 +121,7 @@ side_not_reference f centre x y side = off_lines f centre x y
 pub not_fixed : (f : Bool) (centre x y : ℕ) → is_finder f centre x y ≡ false → is_dark_mark f centre x y ≡ false → is_reference f centre x y ≡ false →
     is_dark_fixed f centre x y ≡ false
 not_fixed f centre x y finder mark reference = none_of (is_dark_finder f centre x y) (is_dark_mark f centre x y) (is_dark_reference f centre x y)
-    (ap (λ (k : Bool). k && (distance centre x y % 2 == 0)) finder) mark
+    (ap (λ (k : Bool). k && (ring_of centre x y % 2 == 0)) finder) mark
     (ap (λ (k : Bool). k && ((abs_diff x centre + abs_diff y centre) % 2 == 0)) reference)
 
 -- a module of finder and marks is dark of itself exactly where it is a dark one of the core

@@ -1,14 +1,14 @@
 -- What the loops that draw have drawn so far: the first of their modules.
-use Rattle.std.proofs.Common.{◌≡◌, ℕ, ◌+◌, ◌-◌, ◌*◌, ◌<◌, ◌≤◌, Bool, true, List, Some, length, refl, ap, subst, sym, ◌∙◌, arith}
+use Rattle.std.proofs.Common.{◌≡◌, ℕ, ◌+◌, ◌-◌, ◌*◌, ◌<◌, ◌≤◌, Bool, true, false, List, Some, length, refl, ap, subst, sym, ◌∙◌, arith}
 use Rattle.std.specs.Prelude.{IsTrue, slice_get}
 use Rattle.std.proofs.lemmas.Option.{slice_get_within}
 use Rattle.bar_base.specs.Picture.{Picture, row_count}
 use Rattle.aztec_layout.specs.Core.{is_dark_fixed, mode_place}
 use Rattle.aztec_layout.specs.Painting.{Paints}
 use Rattle.aztec_layout.specs.declared.sizes.Size.{Size}
-use Rattle.aztec_layout.specs.Places.{IsPlace, bits_before, pairs_of}
+use Rattle.aztec_layout.specs.Places.{IsBitPlace, bits_before, pairs_on_side}
 use Rattle.aztec_layout.specs.SymbolGrid.{IsDataDot, IsLayerDot, IsModeDot}
-use Rattle.aztec_layout.proofs.PaintingLemmas.{Upto, paints_same}
+use Rattle.aztec_layout.proofs.PaintingLemmas.{Upto, paints_none, paints_same}
 use Rattle.aztec_layout.proofs.Spots.{SamePlace, place_only}
 
 -- the dark fixed module in column `column` of row y
@@ -55,24 +55,32 @@ mode_done full centre bits n g h all p = paints_same g h (Upto (ModeDot full cen
 -- bit `number` of a layer, if it is 1
 abbrev pub DataDot : (size : Size) (bits : List Bool) (layer number a b : ℕ) → Type 0
 DataDot size bits layer number a b =
-    (slice_get bits (bits_before size layer + number) ≡ Some true) × IsPlace size (bits_before size layer + number) a b
+    (slice_get bits (bits_before size layer + number) ≡ Some true) × IsBitPlace size (bits_before size layer + number) a b
 
-pub data_dot : (size : Size) (bits : List Bool) (layer number at x y : ℕ) (dark : Bool) (g h : Picture) →
-    at ≡ bits_before size layer + number → slice_get bits at ≡ Some dark → IsPlace size (bits_before size layer + number) x y →
-    Paints g h (λ a b. (dark ≡ true) × (a ≡ x) × (b ≡ y)) → Paints g h (DataDot size bits layer number)
-data_dot size bits layer number at x y dark g h is-at here there p =
+pub data_dot : (size : Size) (bits : List Bool) (layer number at : ℕ) (dark : Bool) (g h : Picture) →
+    at ≡ bits_before size layer + number → slice_get bits at ≡ Some dark →
+    Paints g h (λ a b. (dark ≡ true) × IsBitPlace size (bits_before size layer + number) a b) → Paints g h (DataDot size bits layer number)
+data_dot size bits layer number at dark g h is-at here p =
     let here' : slice_get bits (bits_before size layer + number) ≡ Some dark = ap (slice_get bits) (sym is-at) ∙ here in
-    paints_same g h (λ a b. (dark ≡ true) × (a ≡ x) × (b ≡ y)) (DataDot size bits layer number) p
-    (λ a b in_a in_b q. (
-      here' ∙ ap Some q.0,
-      subst (λ (t : ℕ). IsPlace size (bits_before size layer + number) t b) (sym q.1)
-          (subst (λ (t : ℕ). IsPlace size (bits_before size layer + number) x t) (sym q.2) there),
-    ))
-    (λ a b in_a in_b q.
-    let only : SamePlace a x b y = place_only size (bits_before size layer + number) a b x y q.1 there in
-    (some_once dark true (sym here' ∙ q.0), only.column, only.row))
+    paints_same g h (λ a b. (dark ≡ true) × IsBitPlace size (bits_before size layer + number) a b) (DataDot size bits layer number) p
+    (λ a b in_a in_b q. (here' ∙ ap Some q.0, q.1))
+    (λ a b in_a in_b q. (some_once dark true (sym here' ∙ q.0), q.1))
 
-pub layer_done : (size : Size) (bits : List Bool) (layer n : ℕ) (g h : Picture) → n ≡ 8 * pairs_of size layer →
+-- a bit drawn at its place, if it is 1
+pub placed_dot : (size : Size) (q x y : ℕ) (dark : Bool) (g h : Picture) → IsBitPlace size q x y →
+    Paints g h (λ a b. (dark ≡ true) × (a ≡ x) × (b ≡ y)) → Paints g h (λ a b. (dark ≡ true) × IsBitPlace size q a b)
+placed_dot size q x y dark g h there p =
+    paints_same g h (λ a b. (dark ≡ true) × (a ≡ x) × (b ≡ y)) (λ a b. (dark ≡ true) × IsBitPlace size q a b) p
+    (λ a b in_a in_b r. (
+      r.0,
+      subst (λ (t : ℕ). IsBitPlace size q t b) (sym r.1) (subst (λ (t : ℕ). IsBitPlace size q x t) (sym r.2) there),
+    ))
+    (λ a b in_a in_b r. let only : SamePlace a x b y = place_only size q a b x y r.1 there in (r.0, only.column, only.row))
+
+pub light_dot : (size : Size) (q : ℕ) (dark : Bool) (g : Picture) → dark ≡ false → Paints g g (λ a b. (dark ≡ true) × IsBitPlace size q a b)
+light_dot size q dark g light = paints_none g (λ a b. (dark ≡ true) × IsBitPlace size q a b) (λ a b r. let both : true ≡ false = sym r.0 ∙ light in absurd (cc))
+
+pub layer_done : (size : Size) (bits : List Bool) (layer n : ℕ) (g h : Picture) → n ≡ 8 * pairs_on_side size layer →
     Paints g h (Upto (DataDot size bits layer) n) → Paints g h (IsLayerDot size bits layer)
 layer_done size bits layer n g h all p = paints_same g h (Upto (DataDot size bits layer) n) (IsLayerDot size bits layer) p
     (λ a b in_a in_b q. record {
@@ -85,8 +93,8 @@ layer_done size bits layer n g h all p = paints_same g h (Upto (DataDot size bit
     (λ a b in_a in_b q.
     let e : bits_before size layer + (q.bit - bits_before size layer) ≡ q.bit = omega (arith, q.from) in (
       q.bit - bits_before size layer,
-      (let below : q.bit < bits_before size layer + 8 * pairs_of size layer = q.below in let from : bits_before size layer ≤ q.bit = q.from in omega (arith, all)),
-      (ap (slice_get bits) e ∙ q.one, subst (λ (t : ℕ). IsPlace size t a b) (sym e) q.place),
+      (let below : q.bit < bits_before size layer + 8 * pairs_on_side size layer = q.below in let from : bits_before size layer ≤ q.bit = q.from in omega (arith, all)),
+      (ap (slice_get bits) e ∙ q.one, subst (λ (t : ℕ). IsBitPlace size t a b) (sym e) q.place),
     ))
 
 pub data_done : (size : Size) (bits : List Bool) (n : ℕ) (g h : Picture) → n ≡ size.layers →

@@ -1,17 +1,17 @@
 -- From what was drawn step by step to the picture of a symbol or of a rune.
-use Rattle.std.proofs.Common.{◌≡◌, ℕ, ◌+◌, ◌*◌, ◌/◌, ◌%◌, ◌<◌, ◌⊎◌, Bool, true, false, List, [], ◌∷◌, ◌++◌, Some, length, length-append, take, zero, suc, ap, subst, sym, ◌∙◌, inr, ⊎_elim}
-use Rattle.std.specs.Prelude.{◌↔◌, IsTrue, bit_xor, replicate, slice_get}
-use Rattle.std.proofs.lemmas.List.{length-replicate, map-append, take_at}
-use Rattle.bar_base.proofs.ListLemmas.{take_next}
+use Rattle.std.proofs.Common.{◌≡◌, ℕ, ◌+◌, ◌*◌, ◌/◌, ◌%◌, ◌<◌, ◌⊎◌, Bool, true, false, List, [], ◌∷◌, Some, length, zero, suc, refl, ap, subst, sym, ◌∙◌, inr, ⊎_elim}
+use Rattle.std.specs.Prelude.{◌↔◌, IsTrue, replicate, slice_get}
+use Rattle.std.proofs.lemmas.List.{length-replicate}
 use Rattle.bar_base.specs.Picture.{Picture, light, module_at}
 use Rattle.aztec_layout.specs.declared.sizes.Size.{Size}
 use Rattle.aztec_layout.specs.Core.{is_dark_fixed}
-use Rattle.aztec_layout.specs.ModeMessage.{Continues, IsModeMessage, word_bits}
+use Rattle.galois.specs.CheckNumbers.{IsContinuation, polynomial_of}
+use Rattle.aztec_layout.specs.ModeMessage.{IsModeMessage, word_bits}
 use Rattle.aztec_layout.specs.Painting.{Paints}
 use Rattle.aztec_layout.specs.Places.{centre_of}
-use Rattle.aztec_layout.specs.Rune.{IsRune, IsRuneMessage, turned}
+use Rattle.aztec_layout.specs.Rune.{IsRune, IsRuneMessage, masked}
 use Rattle.aztec_layout.specs.Sizes.{side_of}
-use Rattle.aztec_layout.specs.SymbolGrid.{IsDark, IsDataDot, IsModeDot, IsSquare, IsSymbol, data_bits}
+use Rattle.aztec_layout.specs.SymbolGrid.{IsDark, IsDataDot, IsModeDot, IsSquare, IsSymbolGrid, data_bits}
 use Rattle.aztec_layout.proofs.BitLemmas.{word_bits_two}
 use Rattle.aztec_layout.proofs.ModeLemmas.{continued_once}
 use Rattle.aztec_layout.proofs.PaintingLemmas.{paints_both}
@@ -42,7 +42,7 @@ painted_dark side g P p x y in_x in_y =
 pub drawn_symbol : (s : Size) (held : ℕ) (modes words : List ℕ) (mode_row data_row : List Bool) (g h k : Picture) → IsModeMessage s held modes →
     mode_row ≡ word_bits 4 modes → data_row ≡ data_bits s words →
     Paints (light (side_of s) (side_of s)) g (λ x y. IsTrue (is_dark_fixed s.full (centre_of s) x y)) →
-    Paints g h (IsModeDot s.full (centre_of s) mode_row) → Paints h k (IsDataDot s data_row) → IsSymbol s held words k
+    Paints g h (IsModeDot s.full (centre_of s) mode_row) → Paints h k (IsDataDot s data_row) → IsSymbolGrid s held words k
 drawn_symbol s held modes words mode_row data_row g h k message is-mode is-data fixed mode data_ =
     let mode' : Paints g h (IsModeDot s.full (centre_of s) (word_bits 4 modes)) =
     subst (λ (row : List Bool). Paints g h (IsModeDot s.full (centre_of s) row)) is-mode mode in
@@ -57,7 +57,7 @@ drawn_symbol s held modes words mode_row data_row g h k message is-mode is-data 
     record {
       modes = modes;
       message = message;
-      drawn = record {
+      shown = record {
         square = painted_square (side_of s) k (IsDark s modes words) all;
         dark = painted_dark (side_of s) k (IsDark s modes words) all;
       };
@@ -67,7 +67,7 @@ drawn_symbol s held modes words mode_row data_row g h k message is-mode is-data 
 pub drawn_from : (s : Size) (held : ℕ) (modes words : List ℕ) (mode_row data_row : List Bool) (side : ℕ) (start g h k : Picture) → IsModeMessage s held modes →
     mode_row ≡ word_bits 4 modes → data_row ≡ data_bits s words → side ≡ side_of s → start ≡ light side side →
     Paints start g (λ x y. IsTrue (is_dark_fixed s.full (side / 2) x y)) →
-    Paints g h (IsModeDot s.full (side / 2) mode_row) → Paints h k (IsDataDot s data_row) → IsSymbol s held words k
+    Paints g h (IsModeDot s.full (side / 2) mode_row) → Paints h k (IsDataDot s data_row) → IsSymbolGrid s held words k
 drawn_from s held modes words mode_row data_row side start g h k message is-mode is-data is-side is-light fixed mode data_ =
     drawn_symbol s held modes words mode_row data_row g h k message is-mode is-data
     (subst (λ (n : ℕ). Paints (light n n) g (λ x y. IsTrue (is_dark_fixed s.full (n / 2) x y))) is-side
@@ -77,41 +77,31 @@ drawn_from s held modes words mode_row data_row side start g h k message is-mode
 
 -- the fixed modules and the words of a rune
 pub drawn_rune : (value : ℕ) (words : List ℕ) (row : List Bool) (start g h : Picture) → IsRuneMessage value words →
-    row ≡ word_bits 4 (turned words) → start ≡ light 11 11 → Paints start g (λ x y. IsTrue (is_dark_fixed false 5 x y)) →
+    row ≡ word_bits 4 (masked words) → start ≡ light 11 11 → Paints start g (λ x y. IsTrue (is_dark_fixed false 5 x y)) →
     Paints g h (IsModeDot false 5 row) → IsRune value h
 drawn_rune value words row start g h message is-row is-light fixed mode =
-    let all : Paints (light 11 11) h (λ x y. IsTrue (is_dark_fixed false 5 x y) ⊎ IsModeDot false 5 (word_bits 4 (turned words)) x y) =
-    paints_both (light 11 11) g h (λ x y. IsTrue (is_dark_fixed false 5 x y)) (IsModeDot false 5 (word_bits 4 (turned words)))
-    (λ x y. IsTrue (is_dark_fixed false 5 x y) ⊎ IsModeDot false 5 (word_bits 4 (turned words)) x y)
+    let all : Paints (light 11 11) h (λ x y. IsTrue (is_dark_fixed false 5 x y) ⊎ IsModeDot false 5 (word_bits 4 (masked words)) x y) =
+    paints_both (light 11 11) g h (λ x y. IsTrue (is_dark_fixed false 5 x y)) (IsModeDot false 5 (word_bits 4 (masked words)))
+    (λ x y. IsTrue (is_dark_fixed false 5 x y) ⊎ IsModeDot false 5 (word_bits 4 (masked words)) x y)
     (subst (λ (p : Picture). Paints p g (λ x y. IsTrue (is_dark_fixed false 5 x y))) is-light fixed)
     (subst (λ (r : List Bool). Paints g h (IsModeDot false 5 r)) is-row mode)
     (λ x y in_x in_y d. d) (λ x y in_x in_y d. d) in
     record {
       words = words;
       message = message;
-      square = painted_square 11 h (λ x y. IsTrue (is_dark_fixed false 5 x y) ⊎ IsModeDot false 5 (word_bits 4 (turned words)) x y) all;
-      dark = painted_dark 11 h (λ x y. IsTrue (is_dark_fixed false 5 x y) ⊎ IsModeDot false 5 (word_bits 4 (turned words)) x y) all;
+      square = painted_square 11 h (λ x y. IsTrue (is_dark_fixed false 5 x y) ⊎ IsModeDot false 5 (word_bits 4 (masked words)) x y) all;
+      dark = painted_dark 11 h (λ x y. IsTrue (is_dark_fixed false 5 x y) ⊎ IsModeDot false 5 (word_bits 4 (masked words)) x y) all;
     }
 
 -- words that continue the two words of a value are the value's rune message
-pub rune_message : (value : ℕ) (front words : List ℕ) → front ≡ value / 16 ∷ value % 16 ∷ [] → Continues front 5 words → IsRuneMessage value words
-rune_message value front words digits h = record {
-  front = ap (λ (ws : List ℕ). word_bits 4 (take 2 ws)) h.whole ∙ ap (word_bits 4) (take_at front h.check 2 (ap length digits))
-      ∙ ap (word_bits 4) digits ∙ word_bits_two value;
-  counted = ap length h.whole ∙ length-append front h.check ∙ ap (λ (n : ℕ). n + length h.check) (ap length digits)
-      ∙ ap (λ (n : ℕ). 2 + n) h.counted;
-  coded = h.coded;
+pub rune_message : (value : ℕ) (words : List ℕ) → IsContinuation 4 (polynomial_of 4) (value / 16 ∷ value % 16 ∷ []) 5 words → IsRuneMessage value words
+rune_message value words h = record {
+  front = ap (word_bits 4) h.continues.begins ∙ word_bits_two value;
+  counted = h.continues.counted;
+  coded = h.continues.check;
 }
 
--- one word more
-pub turned_more : (words all more : List ℕ) (place word : ℕ) → slice_get words place ≡ Some word → all ≡ turned (take place words) →
-    more ≡ all ++ bit_xor word 10 ∷ [] → more ≡ turned (take (place + 1) words)
-turned_more words all more place word here so-far pushed =
-    pushed ∙ ap (λ (ws : List ℕ). ws ++ bit_xor word 10 ∷ []) so-far
-    ∙ sym (map-append (λ w. bit_xor w 10) (take place words) (word ∷ [])) ∙ ap turned (sym (take_next words place word here))
-
-pub rune_once : (value : ℕ) (front words others : List ℕ) → front ≡ value / 16 ∷ value % 16 ∷ [] → Continues front 5 words → IsRuneMessage value others →
+pub rune_once : (value : ℕ) (words others : List ℕ) → IsContinuation 4 (polynomial_of 4) (value / 16 ∷ value % 16 ∷ []) 5 words → IsRuneMessage value others →
     others ≡ words
-rune_once value front words others digits h other =
-    continued_once 2 5 front words others (ap length digits) h other.counted other.coded
-    (other.front ∙ sym (ap (word_bits 4) digits ∙ word_bits_two value))
+rune_once value words others h other =
+    continued_once 2 5 (value / 16 ∷ value % 16 ∷ []) words others refl h other.counted other.coded (other.front ∙ sym (word_bits_two value))

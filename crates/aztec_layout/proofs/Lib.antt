@@ -1,5 +1,6 @@
+pub mod FittingLemmas
+pub mod SizeLemmas
 pub mod BitLemmas
-mod CodedLemmas
 mod CoreLemmas
 mod Corners
 mod Dots
@@ -10,8 +11,11 @@ mod ModeLemmas
 mod PaintingLemmas
 mod Ranks
 pub mod ReadLemmas
+pub mod ShownCodewords
 pub mod ShownLemmas
-mod SizeParts
+pub mod SizeParts
 pub mod Spots
 pub mod StuffingLemmas
 pub mod SymbolLemmas
+pub mod Bare
+pub mod Sides

@@ -1,5 +1,5 @@
 -- Words that are read bit by bit.
-use Rattle.std.proofs.Common.{◌≡◌, ℕ, ◌+◌, ◌-◌, ◌*◌, ◌/◌, ◌%◌, ◌^◌, ◌<◌, ◌≤◌, ◌⊎◌, Bool, List, [], ◌∷◌, ◌++◌, Option, Some, length, add-one, zero, suc, refl, ap, subst, sym, ◌∙◌, ⊎_elim, length-append, append-nil, arith}
+use Rattle.std.proofs.Common.{◌≡◌, ℕ, ◌+◌, ◌-◌, ◌*◌, ◌/◌, ◌%◌, ◌^◌, ◌<◌, ◌≤◌, ◌⊎◌, Bool, List, [], ◌∷◌, ◌++◌, Option, Some, length, add-one, suc, refl, ap, subst, sym, ◌∙◌, ⊎_elim, length-append, append-nil, arith}
 use Rattle.std.specs.Prelude.{◌==◌, All, slice_get}
 use Rattle.std.specs.Int.{from_bool}
 use Rattle.std.proofs.lemmas.Bool.{cases_lt}
@@ -10,17 +10,9 @@ use Rattle.bar_base.specs.Picture.{Picture, module_at}
 use Rattle.aztec_layout.specs.Core.{mode_place, mode_run}
 use Rattle.aztec_layout.specs.CoreReading.{Agrees, AreModeWords, middle_of}
 use Rattle.aztec_layout.specs.ModeMessage.{word_bits}
-use Rattle.aztec_layout.proofs.BitLemmas.{SameNumber, last_digit, length-to_bits, length-word_bits, small_digit, to_bits-half, to_bits_once}
-
-slice_get-append_left : {X : Type 0} (xs ys : List X) (i : ℕ) → i < length xs → slice_get (xs ++ ys) i ≡ slice_get xs i
-slice_get-append_left [] ys i inside = absurd (omega arith)
-slice_get-append_left (x ∷ xs) ys zero inside = refl
-slice_get-append_left (x ∷ xs) ys (suc i) inside = slice_get-append_left xs ys i (omega arith)
-
-slice_get-append_right : {X : Type 0} (xs ys : List X) (i : ℕ) → slice_get (xs ++ ys) (length xs + i) ≡ slice_get ys i
-slice_get-append_right [] ys i = ap (slice_get ys) (let e : 0 + i ≡ i = omega arith in e)
-slice_get-append_right (x ∷ xs) ys i =
-    ap (slice_get (x ∷ (xs ++ ys))) (let e : suc (length xs) + i ≡ suc (length xs + i) = omega arith in e) ∙ slice_get-append_right xs ys i
+use Rattle.bar_base.proofs.ListLemmas.{slice_get-append_left, slice_get-append_right}
+use Rattle.bar_base.proofs.NumberBits.{SameNumber, length-to_bits, to_bits-half, to_bits_once}
+use Rattle.aztec_layout.proofs.BitLemmas.{last_digit, length-word_bits, small_digit}
 
 -- The first bits of a source, as a number.
 pub record ReadsAs (source : ℕ → Option Bool) (count number : ℕ) : Type 0 where
@@ -123,16 +115,16 @@ same_items (x ∷ xs) (y ∷ ys) lengths each =
     some_once : (a b : Bool) → Some a ≡ Some b → a ≡ b
     some_once a b e = cc
 
--- words of four bits are told by their bits
-pub words_from_bits : (vs ws : List ℕ) → All (λ w. w < 16) vs → All (λ w. w < 16) ws → length vs ≡ length ws → word_bits 4 vs ≡ word_bits 4 ws → vs ≡ ws
-words_from_bits [] [] small-v small-w lengths bits = refl
-words_from_bits [] (w ∷ ws) small-v small-w lengths bits = absurd (omega arith)
-words_from_bits (v ∷ vs) [] small-v small-w lengths bits = absurd (omega arith)
-words_from_bits (v ∷ vs) (w ∷ ws) small-v small-w lengths bits =
-    let h : SameNumber v w (word_bits 4 vs) (word_bits 4 ws) =
-    to_bits_once 4 v w (word_bits 4 vs) (word_bits 4 ws) (All-head (λ k. k < 16) v vs small-v) (All-head (λ k. k < 16) w ws small-w) bits in
+-- Words of a width are told by their bits.
+pub words_from_bits : (width : ℕ) (vs ws : List ℕ) → All (λ w. w < 2 ^ width) vs → All (λ w. w < 2 ^ width) ws → length vs ≡ length ws → word_bits width vs ≡ word_bits width ws → vs ≡ ws
+words_from_bits width [] [] small-v small-w lengths bits = refl
+words_from_bits width [] (w ∷ ws) small-v small-w lengths bits = absurd (omega (arith, lengths))
+words_from_bits width (v ∷ vs) [] small-v small-w lengths bits = absurd (omega (arith, lengths))
+words_from_bits width (v ∷ vs) (w ∷ ws) small-v small-w lengths bits =
+    let h : SameNumber v w (word_bits width vs) (word_bits width ws) =
+    to_bits_once width v w (word_bits width vs) (word_bits width ws) (All-head (λ k. k < 2 ^ width) v vs small-v) (All-head (λ k. k < 2 ^ width) w ws small-w) bits in
     let rest : vs ≡ ws =
-    words_from_bits vs ws (All-tail (λ k. k < 16) v vs small-v) (All-tail (λ k. k < 16) w ws small-w) (omega arith) h.rest in
+    words_from_bits width vs ws (All-tail (λ k. k < 2 ^ width) v vs small-v) (All-tail (λ k. k < 2 ^ width) w ws small-w) (omega (arith, lengths)) h.rest in
     ap (λ (k : ℕ). k ∷ vs) h.number ∙ ap (λ (ks : List ℕ). w ∷ ks) rest
 
 -- the words that a picture shows are one list
@@ -140,7 +132,7 @@ pub mode_words_once : (full : Bool) (g : Picture) (vs ws : List ℕ) → AreMode
 mode_words_once full g vs ws v w =
     let counted : length vs ≡ length ws = v.counted ∙ sym w.counted in
     let run : length vs ≡ mode_run full = v.counted in
-    words_from_bits vs ws v.each w.each counted
+    words_from_bits 4 vs ws v.each w.each counted
     (same_items (word_bits 4 vs) (word_bits 4 ws)
     (length-word_bits 4 vs ∙ ap (λ (n : ℕ). n * 4) counted ∙ sym (length-word_bits 4 ws))
     (λ t inside. let below : t < 4 * mode_run full = omega (arith, inside, length-word_bits 4 vs, run) in

@@ -10,9 +10,9 @@ use Rattle.aztec_layout.specs.declared.sizes.Size.{Size}
 use Rattle.aztec_layout.specs.Core.{is_core, is_dark_core, is_dark_fixed, is_dark_mark, is_finder, is_light_mark, mode_place, mode_run, rim_of}
 use Rattle.aztec_layout.specs.CoreReading.{middle_of}
 use Rattle.aztec_layout.specs.ModeMessage.{check_words, front_words, word_bits}
-use Rattle.aztec_layout.specs.Places.{IsFree, IsPlace, centre_of}
-use Rattle.aztec_layout.specs.Sizes.{bits_of, codewords_of, side_of}
-use Rattle.aztec_layout.specs.SymbolGrid.{IsDark, IsDataDot, IsDrawn, IsModeDot, IsSquare, IsSymbol, ShowsAll, data_bits}
+use Rattle.aztec_layout.specs.Places.{IsDataModule, IsBitPlace, centre_of}
+use Rattle.aztec_layout.specs.Sizes.{layer_bits, codewords_of, side_of}
+use Rattle.aztec_layout.specs.SymbolGrid.{IsDark, IsDataDot, IsGridWith, IsModeDot, IsSquare, IsSymbolGrid, ShowsAll, data_bits}
 use Rattle.aztec_layout.proofs.BitLemmas.{length-data_bits, length-word_bits}
 use Rattle.aztec_layout.proofs.CoreLemmas.{core_fixed, mode_not_fixed, mode_once, mode_side, none_of, not_fixed, side_not_core}
 use Rattle.aztec_layout.proofs.SizeParts.{size_at}
@@ -47,7 +47,7 @@ not_both true never is = cc
 not_both false never is = cc
 
 -- a dark module that is free is the place of a data bit that is 1
-free_dark : (s : Size) (modes words : List ℕ) (x y : ℕ) → length (word_bits 4 modes) ≡ 4 * mode_run s.full → IsFree s x y → IsDark s modes words x y →
+free_dark : (s : Size) (modes words : List ℕ) (x y : ℕ) → length (word_bits 4 modes) ≡ 4 * mode_run s.full → IsDataModule s x y → IsDark s modes words x y →
     IsDataDot s (data_bits s words) x y
 free_dark s modes words x y long free dark = ⊎_elim
     (λ fixed. absurd (not_both (is_dark_fixed s.full (centre_of s) x y) (not_fixed s.full (centre_of s) x y free.finder free.dark_marks free.reference) fixed))
@@ -57,9 +57,9 @@ free_dark s modes words x y long free dark = ⊎_elim
 
 -- each data bit is at its place
 pub bit_shown : (s : Size) (modes words : List ℕ) (g : Picture) (bit x y : ℕ) → length (word_bits 4 modes) ≡ 4 * mode_run s.full →
-    length (data_bits s words) ≡ bits_of s → IsDrawn s modes words g → IsPlace s bit x y → module_at g x y ≡ slice_get (data_bits s words) bit
+    length (data_bits s words) ≡ layer_bits s → IsGridWith s modes words g → IsBitPlace s bit x y → module_at g x y ≡ slice_get (data_bits s words) bit
 bit_shown s modes words g bit x y long all drawn p =
-    let free : IsFree s x y = place_free s bit x y p in
+    let free : IsDataModule s x y = place_free s bit x y p in
     let inside : bit < length (data_bits s words) = subst (λ (n : ℕ). bit < n) (sym all) (place_below s bit x y p) in
     let b : Bool = get_or (data_bits s words) bit false in
     let here : slice_get (data_bits s words) bit ≡ Some b = slice_get-get_or (data_bits s words) bit false inside in
@@ -74,7 +74,7 @@ bit_shown s modes words g bit x y long all drawn p =
 
 -- finder and marks stand
 pub core_shown : (s : Size) (modes words : List ℕ) (g : Picture) (x y : ℕ) → 1 ≤ s.layers → length (word_bits 4 modes) ≡ 4 * mode_run s.full →
-    IsDrawn s modes words g → x < side_of s → y < side_of s → is_core s.full (centre_of s) x y ≡ true →
+    IsGridWith s modes words g → x < side_of s → y < side_of s → is_core s.full (centre_of s) x y ≡ true →
     module_at g x y ≡ Some (is_dark_core s.full (centre_of s) x y)
 core_shown s modes words g x y some long drawn in_x in_y core =
     let room : rim_of s.full ≤ centre_of s = centre_room s some in
@@ -96,14 +96,14 @@ core_shown s modes words g x y some long drawn in_x in_y core =
         (mode_side s.full (centre_of s) mode.bit room inside))
         core
 
-    free_core : IsFree s x y → ⊥
+    free_core : IsDataModule s x y → ⊥
     free_core free = not_both (is_core s.full (centre_of s) x y)
         (none_of (is_finder s.full (centre_of s) x y) (is_dark_mark s.full (centre_of s) x y) (is_light_mark s.full (centre_of s) x y) free.finder free.dark_marks free.light_marks)
         core
 
 -- each bit of the mode message is at its place
 pub mode_shown : (s : Size) (modes words : List ℕ) (g : Picture) (t : ℕ) → 1 ≤ s.layers → length (word_bits 4 modes) ≡ 4 * mode_run s.full →
-    IsDrawn s modes words g → t < 4 * mode_run s.full → (mode_place s.full (centre_of s) t).0 < side_of s → (mode_place s.full (centre_of s) t).1 < side_of s →
+    IsGridWith s modes words g → t < 4 * mode_run s.full → (mode_place s.full (centre_of s) t).0 < side_of s → (mode_place s.full (centre_of s) t).1 < side_of s →
     module_at g (mode_place s.full (centre_of s) t).0 (mode_place s.full (centre_of s) t).1 ≡ slice_get (word_bits 4 modes) t
 mode_shown s modes words g t some long drawn inside in_x in_y =
     let x : ℕ = (mode_place s.full (centre_of s) t).0 in
@@ -139,24 +139,24 @@ mode_words_counted true = refl
 mode_words_counted false = refl
 
 -- a picture of a symbol shows all
-pub symbol_shows : (s : Size) (held : ℕ) (words : List ℕ) (g : Picture) → 1 ≤ s.layers → length words ≡ codewords_of s → IsSymbol s held words g →
+pub symbol_shows : (s : Size) (held : ℕ) (words : List ℕ) (g : Picture) → 1 ≤ s.layers → length words ≡ codewords_of s → IsSymbolGrid s held words g →
     ShowsAll s held words g
 symbol_shows s held words g some counted h =
     let number : length h.modes ≡ mode_run s.full = h.message.counted ∙ mode_words_counted s.full in
     let long : length (word_bits 4 h.modes) ≡ 4 * mode_run s.full = omega (arith, length-word_bits 4 h.modes, number) in
-    let middle : middle_of g ≡ centre_of s = ap (λ (w : ℕ). w / 2) h.drawn.square.width in
+    let middle : middle_of g ≡ centre_of s = ap (λ (w : ℕ). w / 2) h.shown.square.width in
     record {
       core = λ x y in_x in_y. subst (λ (m : ℕ). is_core s.full m x y ≡ true → module_at g x y ≡ Some (is_dark_core s.full m x y)) (sym middle)
-          (core_shown s h.modes words g x y some long h.drawn (subst (λ (n : ℕ). x < n) h.drawn.square.width in_x)
-          (subst (λ (n : ℕ). y < n) (ap length h.drawn.square.heights ∙ length-replicate (side_of s) 1) in_y));
+          (core_shown s h.modes words g x y some long h.shown (subst (λ (n : ℕ). x < n) h.shown.square.width in_x)
+          (subst (λ (n : ℕ). y < n) (ap length h.shown.square.heights ∙ length-replicate (side_of s) 1) in_y));
       modes = h.modes;
       message = h.message;
       mode = record {
         counted = number;
         each = h.message.coded.each;
         bits = λ t inside. subst (λ (m : ℕ). slice_get (word_bits 4 h.modes) t ≡ module_at g (mode_place s.full m t).0 (mode_place s.full m t).1) (sym middle)
-            (sym (mode_shown s h.modes words g t some long h.drawn inside
+            (sym (mode_shown s h.modes words g t some long h.shown inside
             (mode_inside_at s.full s.layers t some inside).0 (mode_inside_at s.full s.layers t some inside).1));
       };
-      bits = λ bit x y p. bit_shown s h.modes words g bit x y long (length-data_bits s words counted) h.drawn p;
+      bits = λ bit x y p. bit_shown s h.modes words g bit x y long (length-data_bits s words counted) h.shown p;
     }

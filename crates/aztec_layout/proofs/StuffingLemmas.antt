@@ -11,8 +11,8 @@ use Rattle.std.specs.List.{slice_get}
 use Rattle.std.proofs.lemmas.Option.{get_or_from_slice_get, slice_get_within}
 use Rattle.bar_base.specs.Bits.{to_bits}
 use Rattle.bar_base.proofs.ListLemmas.{take_next}
-use Rattle.aztec_layout.specs.Stuffing.{CountsStuffed, IsFirstBad, IsStuffed, IsWord, StandsFor, filled, is_alike, taken, unstuffed}
-use Rattle.aztec_layout.proofs.BitLemmas.{SameNumber, length-to_bits, to_bits-half, to_bits_once}
+use Rattle.aztec_layout.specs.Stuffing.{CountsStuffed, IsFirstBad, IsStuffed, IsWord, Carries, with_ones, is_alike, taken, unstuffed}
+use Rattle.bar_base.proofs.NumberBits.{SameNumber, length-to_bits, to_bits-half, to_bits_once}
 
 -- The bits that a codeword stands for begin with those in front of its last one; `last_of` is what comes after them.
 abbrev last_of : (width word : ℕ) → List Bool
@@ -72,9 +72,9 @@ words_once width (v ∷ vs) (w ∷ ws) x y each-v each-w same-length same =
     ap (λ (k : ℕ). k ∷ vs) h.number ∙ ap (λ (s : List ℕ). w ∷ s) rest
 
 -- what codewords stand for begins the filled bits
-stands_in_filled : (width : ℕ) (bits : List Bool) (ws : List ℕ) (s : StandsFor width bits ws) →
-    unstuffed width ws ++ replicate (width - s.ones) true ≡ filled width bits
-stands_in_filled width bits ws s =
+carried_in_ones : (width : ℕ) (bits : List Bool) (ws : List ℕ) (s : Carries width bits ws) →
+    unstuffed width ws ++ replicate (width - s.ones) true ≡ with_ones width bits
+carried_in_ones width bits ws s =
     ap (λ (t : List Bool). t ++ replicate (width - s.ones) true) s.whole ∙ append_assoc bits (replicate s.ones true) (replicate (width - s.ones) true)
     ∙ ap (λ (t : List Bool). bits ++ t) (replicate-append-replicate s.ones (width - s.ones) true ∙
     ap (λ (k : ℕ). replicate k true) (let few : s.ones < width = s.few in let e : s.ones + (width - s.ones) ≡ width = omega arith in e))
@@ -82,24 +82,24 @@ stands_in_filled width bits ws s =
 -- there is only one list of stuffed codewords
 pub stuffed_once : (width : ℕ) (bits : List Bool) (vs ws : List ℕ) → IsStuffed width bits vs → IsStuffed width bits ws → vs ≡ ws
 stuffed_once width bits vs ws p q =
-    let le : length vs ≤ length ws = p.shortest ws q.stands in
-    let ge : length ws ≤ length vs = q.shortest vs p.stands in
-    words_once width vs ws (replicate (width - p.stands.ones) true) (replicate (width - q.stands.ones) true) p.stands.each q.stands.each (omega arith)
-    (stands_in_filled width bits vs p.stands ∙ sym (stands_in_filled width bits ws q.stands))
+    let le : length vs ≤ length ws = p.shortest ws q.carried in
+    let ge : length ws ≤ length vs = q.shortest vs p.carried in
+    words_once width vs ws (replicate (width - p.carried.ones) true) (replicate (width - q.carried.ones) true) p.carried.each q.carried.each (omega arith)
+    (carried_in_ones width bits vs p.carried ∙ sym (carried_in_ones width bits ws q.carried))
 
 -- The codewords of the first `at` of the filled bits: every list that stands for all bits has at least as many.
 pub record IsBegun (width : ℕ) (bits : List Bool) (at : ℕ) (words : List ℕ) : Type 0 where
   pub each : All (IsWord width) words
-  pub spelled : unstuffed width words ≡ take at (filled width bits)
+  pub spelled : unstuffed width words ≡ take at (with_ones width bits)
   pub within : at < length bits + width
-  pub shortest : (others : List ℕ) → StandsFor width bits others → length words ≤ length others
+  pub shortest : (others : List ℕ) → Carries width bits others → length words ≤ length others
 
 pub begun_none : (width : ℕ) (bits : List Bool) → 0 < width → IsBegun width bits 0 []
 begun_none width bits some = record { each = All-nil (IsWord width); spelled = refl; within = omega arith; shortest = λ others s. omega arith }
 
 -- while bits are left, every list that stands for all bits has more codewords
 begun_short : (width : ℕ) (bits : List Bool) (at : ℕ) (ws : List ℕ) → IsBegun width bits at ws → at < length bits →
-    (others : List ℕ) → StandsFor width bits others → length ws + 1 ≤ length others
+    (others : List ℕ) → Carries width bits others → length ws + 1 ≤ length others
 begun_short width bits at ws b more others s = ⊎_elim
     (λ h. let more' : length ws < length others = h in omega arith)
     (λ h. absurd (not_same (let le : length others ≤ length ws = h in let ge : length ws ≤ length others = b.shortest others s in omega arith)))
@@ -108,25 +108,25 @@ begun_short width bits at ws b more others s = ⊎_elim
     not_same : length ws ≡ length others → ⊥
     not_same lengths =
         let e : ws ≡ others =
-        words_once width ws others (drop at (filled width bits)) (replicate (width - s.ones) true) b.each s.each lengths
-        (ap (λ (t : List Bool). t ++ drop at (filled width bits)) b.spelled ∙ take-append-drop at (filled width bits)
-        ∙ sym (stands_in_filled width bits others s)) in
-        let short : length (take at (filled width bits)) ≡ at =
-        length-take-le at (filled width bits) (simp (length-append, length-replicate) (omega arith)) in
+        words_once width ws others (drop at (with_ones width bits)) (replicate (width - s.ones) true) b.each s.each lengths
+        (ap (λ (t : List Bool). t ++ drop at (with_ones width bits)) b.spelled ∙ take-append-drop at (with_ones width bits)
+        ∙ sym (carried_in_ones width bits others s)) in
+        let short : length (take at (with_ones width bits)) ≡ at =
+        length-take-le at (with_ones width bits) (simp (length-append, length-replicate) (omega arith)) in
         let long : length (bits ++ replicate s.ones true) ≡ length bits + s.ones =
         length-append bits (replicate s.ones true) ∙ ap (λ (k : ℕ). length bits + k) (length-replicate s.ones true) in
-        let same : length (take at (filled width bits)) ≡ length (bits ++ replicate s.ones true) =
+        let same : length (take at (with_ones width bits)) ≡ length (bits ++ replicate s.ones true) =
         ap length (sym b.spelled ∙ ap (unstuffed width) e ∙ s.whole) in
         omega (arith, short, long, same)
 
 pub begun_more : (width : ℕ) (bits : List Bool) (at : ℕ) (ws : List ℕ) (word : ℕ) → IsBegun width bits at ws → at < length bits → IsWord width word →
-    taken width word ≡ take (length (taken width word)) (drop at (filled width bits)) → length (taken width word) ≤ width →
+    taken width word ≡ take (length (taken width word)) (drop at (with_ones width bits)) → length (taken width word) ≤ width →
     IsBegun width bits (at + length (taken width word)) (ws ++ word ∷ [])
 begun_more width bits at ws word b more is-word here few = record {
   each = All-push (IsWord width) ws word b.each is-word;
   spelled = flat_map-append (taken width) ws (word ∷ []) ∙ ap (λ (t : List Bool). unstuffed width ws ++ t) (append-nil (taken width word))
-      ∙ ap (λ (t : List Bool). t ++ taken width word) b.spelled ∙ ap (λ (t : List Bool). take at (filled width bits) ++ t) here
-      ∙ sym (take-add at (length (taken width word)) (filled width bits));
+      ∙ ap (λ (t : List Bool). t ++ taken width word) b.spelled ∙ ap (λ (t : List Bool). take at (with_ones width bits) ++ t) here
+      ∙ sym (take-add at (length (taken width word)) (with_ones width bits));
   within = omega (arith, few);
   shortest = λ others s. let h : length ws + 1 ≤ length others = begun_short width bits at ws b more others s in
       simp length-append (omega (arith, h));
@@ -137,11 +137,11 @@ begun_all width bits at ws b done =
     let ones : ℕ = at - length bits in
     let room : ones ≤ width = let within : at < length bits + width = b.within in omega arith in
     record {
-      stands = record {
+      carried = record {
         each = b.each;
         ones = ones;
         few = let within : at < length bits + width = b.within in omega arith;
-        whole = b.spelled ∙ ap (λ (k : ℕ). take k (filled width bits)) (let e : at ≡ length bits + (at - length bits) = omega arith in e)
+        whole = b.spelled ∙ ap (λ (k : ℕ). take k (with_ones width bits)) (let e : at ≡ length bits + (at - length bits) = omega arith in e)
             ∙ take-append-add bits (replicate width true) ones
             ∙ ap (λ (t : List Bool). bits ++ t) (take-replicate ones width true room);
       };
@@ -169,7 +169,7 @@ length-taken width word alike is =
 
 -- a bit of the filled bits is a bit, or a one past the last
 pub filled_bit : (width : ℕ) (bits : List Bool) (at : ℕ) (bit : Bool) → bit ≡ get_or bits at true → at < length bits + width →
-    get_or (filled width bits) at bit ≡ bit
+    get_or (with_ones width bits) at bit ≡ bit
 filled_bit width bits at bit is inside = ⊎_elim
     (λ h. get_or_append_left bits (replicate width true) bit at h ∙ get_or_default bits at bit true h ∙ sym is)
     (λ h. let past : length bits ≤ at = h in
@@ -198,15 +198,15 @@ taken_here (suc n) number word bits some here front kept =
 
 -- the same from a place on
 pub filled_bit_from : (width : ℕ) (bits : List Bool) (at i : ℕ) (bit : Bool) → bit ≡ get_or bits (at + i) true → at + i < length bits + width →
-    get_or (drop at (filled width bits)) i bit ≡ bit
-filled_bit_from width bits at i bit is inside = get_or-drop at (filled width bits) i bit ∙ filled_bit width bits (at + i) bit is inside
+    get_or (drop at (with_ones width bits)) i bit ≡ bit
+filled_bit_from width bits at i bit is inside = get_or-drop at (with_ones width bits) i bit ∙ filled_bit width bits (at + i) bit is inside
 
-pub length-filled_from : (width : ℕ) (bits : List Bool) (at : ℕ) → length (drop at (filled width bits)) ≡ length bits + width - at
+pub length-filled_from : (width : ℕ) (bits : List Bool) (at : ℕ) → length (drop at (with_ones width bits)) ≡ length bits + width - at
 length-filled_from width bits at = simp (length-drop, length-append, length-replicate)
 
 -- one codeword more, with the lengths as a loop has them
 pub begun_step : (width : ℕ) (bits : List Bool) (at n : ℕ) (ws more : List ℕ) (word : ℕ) → IsBegun width bits at ws → at < length bits → IsWord width word →
-    taken width word ≡ take (length (taken width word)) (drop at (filled width bits)) → n ≤ width → n ≡ length (taken width word) →
+    taken width word ≡ take (length (taken width word)) (drop at (with_ones width bits)) → n ≤ width → n ≡ length (taken width word) →
     more ≡ ws ++ word ∷ [] → IsBegun width bits (at + n) more
 begun_step width bits at n ws more word b inside is-word here few counted pushed =
     subst (λ (s : List ℕ). IsBegun width bits (at + n) s) (sym pushed)
@@ -224,7 +224,7 @@ pub has_begun_none : (width : ℕ) (bits : List Bool) → 0 < width → HasBegun
 has_begun_none width bits some = record { words = []; begun = begun_none width bits some; counted = refl; few = omega arith }
 
 pub has_begun_more : (width : ℕ) (bits : List Bool) (at n count word : ℕ) → HasBegun width bits at count → at < length bits → IsWord width word →
-    taken width word ≡ take (length (taken width word)) (drop at (filled width bits)) → n ≤ width → n ≡ length (taken width word) → 5 ≤ n →
+    taken width word ≡ take (length (taken width word)) (drop at (with_ones width bits)) → n ≤ width → n ≡ length (taken width word) → 5 ≤ n →
     HasBegun width bits (at + n) (count + 1)
 has_begun_more width bits at n count word h inside is-word here few counted some = record {
   words = h.words ++ word ∷ [];
@@ -266,8 +266,8 @@ first_bad width words place word bits so-far here bad = record {
 -- bits that are there need a codeword
 pub stuffed_some : (width : ℕ) (bits : List Bool) (words : List ℕ) → IsStuffed width bits words → 0 < length bits → 1 ≤ length words
 stuffed_some width bits [] stuffed some =
-    let e : length {A = Bool} [] ≡ length (bits ++ replicate stuffed.stands.ones true) = ap length stuffed.stands.whole in
-    absurd (omega (arith, e, length-append bits (replicate stuffed.stands.ones true)))
+    let e : length {A = Bool} [] ≡ length (bits ++ replicate stuffed.carried.ones true) = ap length stuffed.carried.whole in
+    absurd (omega (arith, e, length-append bits (replicate stuffed.carried.ones true)))
 stuffed_some width bits (w ∷ ws) stuffed some = omega arith
 
 pub counts_some : (width : ℕ) (bits : List Bool) (count : ℕ) → CountsStuffed width bits count → 0 < length bits → 1 ≤ count

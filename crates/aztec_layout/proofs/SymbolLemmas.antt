@@ -7,7 +7,7 @@ use Rattle.aztec_layout.specs.declared.sizes.Size.{Size}
 use Rattle.aztec_layout.specs.ModeMessage.{IsModeMessage}
 use Rattle.aztec_layout.specs.Rune.{IsDarkInRune, IsRune, IsRuneMessage}
 use Rattle.aztec_layout.specs.Sizes.{side_of}
-use Rattle.aztec_layout.specs.SymbolGrid.{IsDark, IsSquare, IsSymbol}
+use Rattle.aztec_layout.specs.SymbolGrid.{IsDark, IsSquare, IsSymbolGrid}
 use Rattle.aztec_layout.proofs.SizeParts.{size_at}
 
 -- lists of one length that are true at the same places are one list
@@ -56,13 +56,13 @@ side_some false layers = omega arith
 
 -- a symbol has one picture
 pub symbol_once : (s : Size) (held : ℕ) (words modes : List ℕ) (g h : Picture) → ((others : List ℕ) → IsModeMessage s held others → others ≡ modes) →
-    IsSymbol s held words g → IsSymbol s held words h → g ≡ h
+    IsSymbolGrid s held words g → IsSymbolGrid s held words h → g ≡ h
 symbol_once s held words modes g h only p q =
     let same : p.modes ≡ q.modes = only p.modes p.message ∙ sym (only q.modes q.message) in
-    same_picture (side_of s) g h (side_some s.full s.layers) p.drawn.square q.drawn.square
+    same_picture (side_of s) g h (side_some s.full s.layers) p.shown.square q.shown.square
     (λ x y in_x in_y. (
-      (λ d. (q.drawn.dark x y in_x in_y).1 (subst (λ (ms : List ℕ). IsDark s ms words x y) same ((p.drawn.dark x y in_x in_y).0 d))),
-      (λ d. (p.drawn.dark x y in_x in_y).1 (subst (λ (ms : List ℕ). IsDark s ms words x y) (sym same) ((q.drawn.dark x y in_x in_y).0 d))),
+      (λ d. (q.shown.dark x y in_x in_y).1 (subst (λ (ms : List ℕ). IsDark s ms words x y) same ((p.shown.dark x y in_x in_y).0 d))),
+      (λ d. (p.shown.dark x y in_x in_y).1 (subst (λ (ms : List ℕ). IsDark s ms words x y) (sym same) ((q.shown.dark x y in_x in_y).0 d))),
     ))
 
 -- a rune has one picture

@@ -1,26 +1,26 @@
 -- What is fixed round the centre of a symbol: finder, orientation marks, reference grid, and the places of the mode message.
 -- A symbol and a rune share it, by the kind of the core and by the column and row of the centre, which are one number.
-use Rattle.std.specs.Prelude.{ℕ, ◌+◌, ◌-◌, ◌*◌, ◌/◌, ◌%◌, ◌==◌, ◌&&◌, ◌||◌, ◌∷◌, [], List, max, nat_lt, nat_le, Bool, if◌then◌else◌}
+use Rattle.std.specs.Prelude.{◌≢◌, ◌<◌, ℕ, ◌+◌, ◌-◌, ◌*◌, ◌/◌, ◌%◌, ◌==◌, ◌&&◌, ◌||◌, ◌∷◌, [], List, max, nat_lt, nat_le, Bool, if◌then◌else◌}
 use Rattle.std.specs.Int.{abs_diff}
 use Rattle.std.specs.List.{list_any}
 
--- The distance of a module from the centre: the greater one of the distances of its column and its row
+-- The square ring about the centre on which a module lies: the greater one of the distances of its column and its row from the centre
 -- (ISO/IEC 24778, symbol structure).
-abbrev pub distance : (centre x y : ℕ) → ℕ
-distance centre x y = max (abs_diff x centre) (abs_diff y centre)
+abbrev pub ring_of : (centre x y : ℕ) → ℕ
+ring_of centre x y = max (abs_diff x centre) (abs_diff y centre)
 
--- The distance of the orientation marks and of the mode message: 5 in a compact core, 7 in a full one
+-- The ring of the orientation marks and of the mode message: 5 in a compact core, 7 in a full one
 -- (ISO/IEC 24778, symbol structure).
 abbrev pub rim_of : Bool → ℕ
 rim_of full = if full then 7 else 5
 
--- The finder is all inside the rim: square rings about the centre, dark at even distances (ISO/IEC 24778, symbol structure).
+-- The finder is all inside the rim: square rings about the centre, dark where their number is even (ISO/IEC 24778, symbol structure).
 abbrev pub is_finder : (full : Bool) (centre x y : ℕ) → Bool
-is_finder full centre x y = nat_lt (distance centre x y) (rim_of full)
+is_finder full centre x y = nat_lt (ring_of centre x y) (rim_of full)
 
 -- The dark modules of the finder.
 abbrev pub is_dark_finder : (full : Bool) (centre x y : ℕ) → Bool
-is_dark_finder full centre x y = is_finder full centre x y && (distance centre x y % 2 == 0)
+is_dark_finder full centre x y = is_finder full centre x y && (ring_of centre x y % 2 == 0)
 
 -- The orientation marks, three at each corner of the rim from the column and row `low` to `high`, as columns and rows. These
 -- are the dark ones (ISO/IEC 24778, symbol structure).
@@ -46,11 +46,11 @@ abbrev pub is_light_mark : (full : Bool) (centre x y : ℕ) → Bool
 is_light_mark full centre x y = is_among x y (light_marks (centre - rim_of full) (centre + rim_of full))
 
 -- The reference grid of a full symbol: the lines through the centre and 16 modules apart from there on, from the rim on outwards, where on
--- the rim itself the four modules above, below and beside the centre belong to it. Dark and light alternate, and the centre
+-- the rim itself the four modules above, below, left and right of the centre belong to it. Dark and light alternate, and the centre
 -- would be dark (ISO/IEC 24778, symbol structure).
 abbrev pub is_reference : (full : Bool) (centre x y : ℕ) → Bool
 is_reference full centre x y =
-    full && (nat_le (rim_of full) (distance centre x y) && ((abs_diff x centre % 16 == 0) || (abs_diff y centre % 16 == 0)))
+    full && (nat_le (rim_of full) (ring_of centre x y) && ((abs_diff x centre % 16 == 0) || (abs_diff y centre % 16 == 0)))
 
 -- The dark modules of the reference grid.
 abbrev pub is_dark_reference : (full : Bool) (centre x y : ℕ) → Bool
@@ -60,7 +60,7 @@ is_dark_reference full centre x y = is_reference full centre x y && ((abs_diff x
 abbrev pub mode_run : Bool → ℕ
 mode_run full = if full then 10 else 7
 
--- The column or row of bit i on a side. In a full core the reference line stands between bits 4 and 5 (ISO/IEC 24778, mode message).
+-- The column or row of bit i on a side. In a full core the reference line lies between bits 4 and 5 (ISO/IEC 24778, mode message).
 abbrev pub mode_line : (full : Bool) (centre i : ℕ) → ℕ
 mode_line full centre i = if full then centre - 5 + i + i / 5 else centre - 3 + i
 
@@ -89,3 +89,9 @@ is_core full centre x y =
 -- The dark ones of them.
 abbrev pub is_dark_core : (full : Bool) (centre x y : ℕ) → Bool
 is_dark_core full centre x y = is_dark_finder full centre x y || is_dark_mark full centre x y
+
+-- A module outside each core and off each line of the reference grid.
+pub record IsBare (centre x y : ℕ) : Type 0 where
+  pub column : abs_diff x centre % 16 ≢ 0
+  pub row : abs_diff y centre % 16 ≢ 0
+  pub outside : 7 < ring_of centre x y

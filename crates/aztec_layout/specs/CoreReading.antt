@@ -20,9 +20,9 @@ Differs full picture x y =
     (is_core full (middle_of picture) x y ≡ true)
     × (module_at picture x y ≡ Some (not (is_dark_core full (middle_of picture) x y)))
 
--- Finder and orientation marks stand in a picture.
-abbrev pub Stands : (full : Bool) (picture : Picture) → Type 0
-Stands full picture = (x y : ℕ) → x < picture.width → y < row_count picture → Agrees full picture x y
+-- A picture has the finder and the orientation marks of a kind (ISO/IEC 24778, symbol structure).
+abbrev pub HasFinder : (full : Bool) (picture : Picture) → Type 0
+HasFinder full picture = (x y : ℕ) → x < picture.width → y < row_count picture → Agrees full picture x y
 
 -- The first module of finder and marks that differs, row by row from the top, each row from the left.
 pub record IsFirstDiffering (full : Bool) (picture : Picture) (x y : ℕ) : Type 0 where

@@ -1,5 +1,7 @@
+pub mod Allowed
 pub mod Core
 pub mod CoreReading
+pub mod DataReading
 pub mod ModeMessage
 pub mod Painting
 pub mod Places

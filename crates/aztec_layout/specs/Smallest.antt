@@ -1,22 +1,21 @@
--- The smallest allowed size that holds a message.
-use Rattle.std.specs.Prelude.{◌≡◌, ℕ, ◌+◌, ◌-◌, ◌*◌, ◌<◌, min, ◌≤◌, ◌⊎◌, ◌==◌, nat_le, true, false, if◌then◌else◌}
+-- The smallest allowed size that holds a message, by the numbers of its codewords and by its bits.
+use Rattle.std.specs.Prelude.{◌≡◌, ℕ, ◌+◌, ◌-◌, ◌*◌, ◌≤◌, ◌==◌, min, nat_le, Bool, List, Option, Some, None, length, if◌then◌else◌}
 use Rattle.aztec_layout.specs.declared.sizes.Size.{Size}
+use Rattle.aztec_layout.specs.declared.allowed.Allowed.{Allowed}
 use Rattle.aztec_layout.specs.declared.fitting.Needs.{Needs}
-use Rattle.aztec_layout.specs.Sizes.{IsSize, side_of, holds_of}
+use Rattle.aztec_layout.specs.declared.choice.NoFit.{NoFit}
+use Rattle.aztec_layout.specs.Allowed.{IsFirstSize, IsLast, NoSize, allowed_of, counted_share}
+use Rattle.aztec_layout.specs.Sizes.{codeword_width, holds_of}
+use Rattle.aztec_layout.specs.Stuffing.{CountsStuffed, IsStuffed}
 
--- The number of a size among the versions: 1 to 4 are the compact sizes, 5 to 36 the full ones (the manual of zint, Aztec Code).
-abbrev pub version_of : Size → ℕ
-version_of size = if size.full then size.layers + 4 else size.layers
+-- The numbers of stuffed codewords of bits at the four widths (ISO/IEC 24778, bit stuffing).
+pub record AreNeeds (bits : List Bool) (needs : Needs) : Type 0 where
+  pub w6 : CountsStuffed 6 bits needs.w6
+  pub w8 : CountsStuffed 8 bits needs.w8
+  pub w10 : CountsStuffed 10 bits needs.w10
+  pub w12 : CountsStuffed 12 bits needs.w12
 
--- A size is allowed where no version is asked for, which 0 says, or where it is the version that is asked for.
-abbrev pub IsAllowed : ℕ → Size → Type 0
-IsAllowed version size = IsSize size × ((version ≡ 0) ⊎ (version_of size ≡ version))
-
--- The share that counts: with a version that is asked for no share is kept for check codewords.
-abbrev pub counted_share : ℕ → ℕ → ℕ
-counted_share version share = if version == 0 then share else 0
-
--- The codewords that the data needs at the width of a size.
+-- The codewords that data needs at the width of a size.
 abbrev pub needed_at : Needs → Size → ℕ
 needed_at needs size =
     if nat_le size.layers 2 then needs.w6
@@ -24,25 +23,41 @@ needed_at needs size =
     else if nat_le size.layers 22 then needs.w10
     else needs.w12
 
--- A size holds the data where its codewords at the size's width are at most what the size holds at the share.
-abbrev pub Holds : Needs → ℕ → Size → Type 0
-Holds needs share size = needed_at needs size ≤ holds_of size share
+-- A size holds data of these numbers of codewords where it needs at its width at most what it holds at the share that counts.
+abbrev pub HoldsNeeds : Needs → Allowed → Size → Type 0
+HoldsNeeds needs allowed size = needed_at needs size ≤ holds_of size (counted_share allowed)
 
--- Sizes are ordered by side, and on equal sides compact comes before full.
-abbrev pub ComesBefore : Size → Size → Type 0
-ComesBefore s t = (side_of s < side_of t) ⊎ ((side_of s ≡ side_of t) × (s.full ≡ false) × (t.full ≡ true))
+-- Version 0 names no size.
+abbrev pub version_named : ℕ → Option ℕ
+version_named version = if version == 0 then None else Some version
 
--- The first allowed size that holds the data: every other one comes after it.
-pub record IsFirst (needs : Needs) (share version : ℕ) (size : Size) : Type 0 where
-  pub allowed : IsAllowed version size
-  pub enough : Holds needs (counted_share version share) size
-  pub first : (t : Size) → IsAllowed version t → Holds needs (counted_share version share) t → (t ≡ size) ⊎ ComesBefore size t
+abbrev pub allowed_by : (share version : ℕ) → Allowed
+allowed_by share version = allowed_of share (version_named version)
 
--- No allowed size holds the data.
-abbrev pub NoneHolds : (needs : Needs) (share version : ℕ) → Type 0
-NoneHolds needs share version =
-    (size : Size) → IsAllowed version size → ¬ (Holds needs (counted_share version share) size)
+-- The number of stuffed codewords of bits at the width of a size (ISO/IEC 24778, bit stuffing).
+pub record Takes (bits : List Bool) (size : Size) (count : ℕ) : Type 0 where
+  pub words : List ℕ
+  pub stuffed : IsStuffed (codeword_width size) bits words
+  pub counted : length words ≡ count
 
--- The place of a size in that order, counted from 0.
+-- A size holds bits where their stuffed codewords are at most as many as it holds of data at the share that counts
+-- (ISO/IEC 24778, error correction).
+pub record HoldsBits (bits : List Bool) (allowed : Allowed) (size : Size) : Type 0 where
+  pub count : ℕ
+  pub takes : Takes bits size count
+  pub enough : count ≤ holds_of size (counted_share allowed)
+
+-- The smallest allowed size that holds the bits: every other one comes after it, by side and compact before full.
+abbrev pub IsSmallest : (bits : List Bool) → Allowed → Size → Type 0
+IsSmallest bits allowed size = IsFirstSize allowed (HoldsBits bits allowed) size
+
+-- No allowed size holds the bits: the last one needs so many codewords for them, and holds so many.
+pub record HasNoFit (bits : List Bool) (allowed : Allowed) (fault : NoFit) : Type 0 where
+  pub none : NoSize allowed (HoldsBits bits allowed)
+  pub last : IsLast allowed fault.last
+  pub takes : Takes bits fault.last fault.needed
+  pub holds : fault.held ≡ holds_of fault.last (counted_share allowed)
+
+-- The place of a size in the order of sizes, counted from 0.
 abbrev pub rank_of : Size → ℕ
 rank_of size = if size.full then min (2 * size.layers) (size.layers + 3) else 2 * size.layers - 3

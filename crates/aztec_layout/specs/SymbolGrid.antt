@@ -1,17 +1,16 @@
 -- Which modules of a symbol are dark.
-use Rattle.std.specs.Prelude.{◌≡◌, ℕ, ◌-◌, ◌*◌, ◌<◌, ◌≤◌, ◌↔◌, ◌⊎◌, ◌++◌, Bool, false, true, List, Some, IsTrue, length, replicate, slice_get, suc}
+use Rattle.std.specs.Prelude.{◌≡◌, ℕ, ◌*◌, ◌<◌, ◌≤◌, ◌↔◌, ◌⊎◌, ◌++◌, Bool, false, true, List, Some, IsTrue, length, replicate, slice_get, suc}
 use Rattle.bar_base.specs.Picture.{Picture, module_at}
 use Rattle.aztec_layout.specs.declared.sizes.Size.{Size}
-use Rattle.aztec_layout.specs.CoreReading.{AreModeWords, Stands}
+use Rattle.aztec_layout.specs.CoreReading.{AreModeWords, HasFinder}
 use Rattle.aztec_layout.specs.ModeMessage.{IsModeMessage, word_bits}
 use Rattle.aztec_layout.specs.Core.{is_dark_fixed, mode_place}
-use Rattle.aztec_layout.specs.Places.{IsPlace, bits_before, centre_of}
-use Rattle.aztec_layout.specs.Sizes.{bits_of, side_of, width_of}
+use Rattle.aztec_layout.specs.Places.{IsBitPlace, bits_before, centre_of}
+use Rattle.aztec_layout.specs.Sizes.{codeword_width, lead_bits, side_of}
 
 -- The bits of all data layers: zeros for what is left over, and the codewords (ISO/IEC 24778, data placement).
 abbrev pub data_bits : (size : Size) (words : List ℕ) → List Bool
-data_bits size words =
-    replicate (bits_of size - length words * width_of size) false ++ word_bits (width_of size) words
+data_bits size words = replicate (lead_bits size) false ++ word_bits (codeword_width size) words
 
 -- The place of a bit of the mode message that is 1.
 pub record IsModeDot (full : Bool) (centre : ℕ) (bits : List Bool) (x y : ℕ) : Type 0 where
@@ -23,7 +22,7 @@ pub record IsModeDot (full : Bool) (centre : ℕ) (bits : List Bool) (x y : ℕ)
 pub record IsDataDot (size : Size) (bits : List Bool) (x y : ℕ) : Type 0 where
   pub bit : ℕ
   pub one : slice_get bits bit ≡ Some true
-  pub place : IsPlace size bit x y
+  pub place : IsBitPlace size bit x y
 
 -- The same for the bits of one layer.
 pub record IsLayerDot (size : Size) (bits : List Bool) (layer x y : ℕ) : Type 0 where
@@ -31,7 +30,7 @@ pub record IsLayerDot (size : Size) (bits : List Bool) (layer x y : ℕ) : Type 
   pub from : bits_before size layer ≤ bit
   pub below : bit < bits_before size (suc layer)
   pub one : slice_get bits bit ≡ Some true
-  pub place : IsPlace size bit x y
+  pub place : IsBitPlace size bit x y
 
 -- The dark modules of a symbol with the words of a mode message and the codewords (ISO/IEC 24778, symbol structure).
 abbrev pub IsDark : (size : Size) (modes words : List ℕ) (x y : ℕ) → Type 0
@@ -47,21 +46,21 @@ pub record IsSquare (side : ℕ) (picture : Picture) : Type 0 where
   pub whole : length picture.modules ≡ side * side
 
 -- The picture of the symbol: its modules are dark exactly where they are to be.
-pub record IsDrawn (size : Size) (modes words : List ℕ) (picture : Picture) : Type 0 where
+pub record IsGridWith (size : Size) (modes words : List ℕ) (picture : Picture) : Type 0 where
   pub square : IsSquare (side_of size) picture
   pub dark : (x y : ℕ) → x < side_of size → y < side_of size →
       (module_at picture x y ≡ Some true) ↔ IsDark size modes words x y
 
 -- The picture of the symbol of a size with `held` data codewords and all its codewords.
-pub record IsSymbol (size : Size) (held : ℕ) (words : List ℕ) (picture : Picture) : Type 0 where
+pub record IsSymbolGrid (size : Size) (held : ℕ) (words : List ℕ) (picture : Picture) : Type 0 where
   pub modes : List ℕ
   pub message : IsModeMessage size held modes
-  pub drawn : IsDrawn size modes words picture
+  pub shown : IsGridWith size modes words picture
 
 -- What a picture of a symbol shows: finder and marks, the words of the mode message at its places, and each data bit at its place.
 pub record ShowsAll (size : Size) (held : ℕ) (words : List ℕ) (picture : Picture) : Type 0 where
-  pub core : Stands size.full picture
+  pub core : HasFinder size.full picture
   pub modes : List ℕ
   pub message : IsModeMessage size held modes
   pub mode : AreModeWords size.full picture modes
-  pub bits : (bit x y : ℕ) → IsPlace size bit x y → module_at picture x y ≡ slice_get (data_bits size words) bit
+  pub bits : (bit x y : ℕ) → IsBitPlace size bit x y → module_at picture x y ≡ slice_get (data_bits size words) bit

@@ -2,7 +2,7 @@ ghost use Rattle.std.specs.Prelude.{◌≡◌, ℕ, ◌+◌, ◌*◌, ◌/◌, �
 ghost use Rattle.bar_base.specs.Bits.{to_bits};
 ghost use Rattle.bar_base.specs.Picture.{module_at, row_count};
 ghost use Rattle.aztec_layout.specs.Core.{is_core as is_core_at, is_dark_core as is_dark_core_at, mode_place as mode_place_of, mode_run as mode_run_of, rim_of};
-ghost use Rattle.aztec_layout.specs.CoreReading.{Agrees, AreModeWords, Differs, IsFirstDiffering, Stands, mode_module};
+ghost use Rattle.aztec_layout.specs.CoreReading.{Agrees, AreModeWords, Differs, IsFirstDiffering, HasFinder, mode_module};
 
 use crate::core_symbol::{
     is_dark_finder, is_dark_mark, is_finder, is_light_mark, mode_place, mode_run,
@@ -15,7 +15,7 @@ use bar_base::{Grid, Short};
 pub fn finder(grid: &Grid, full: bool) -> Option<(u32, u32)>
     requires square { row_count grid.now ≡ grid.now.width }
     requires room { 2 * rim_of full < grid.now.width }
-    ensures stands { IfNone result (Stands full grid.now) }
+    ensures found { IfNone result (HasFinder full grid.now) }
     ensures differs { IfSome result (λ place. IsFirstDiffering full grid.now place.0 place.1) }
 {
     for y in 0..grid.rows() {
@@ -32,7 +32,7 @@ fn differing_in_row(grid: &Grid, full: bool, y: u32) -> Option<u32>
     requires square { row_count grid.now ≡ grid.now.width }
     requires room { 2 * rim_of full < grid.now.width }
     requires row { y < row_count grid.now }
-    ensures stands { IfNone result ((a : ℕ) → a < grid.now.width → Agrees full grid.now a y) }
+    ensures agrees { IfNone result ((a : ℕ) → a < grid.now.width → Agrees full grid.now a y) }
     ensures column { IfSome result (λ x. x < grid.now.width) }
     ensures differs { IfSome result (λ x. Differs full grid.now x y) }
     ensures before { IfSome result (λ x. (a : ℕ) → a < x → Agrees full grid.now a y) }

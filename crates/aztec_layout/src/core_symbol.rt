@@ -1,5 +1,6 @@
 ghost use Rattle.std.specs.Prelude.{◌≡◌, ℕ, ◌+◌, ◌*◌, ◌^◌, ◌<◌, ◌≤◌};
-ghost use Rattle.aztec_layout.specs.Core.{dark_marks, distance as distance_of, is_among, is_dark_fixed as is_dark_fixed_at, is_dark_finder as is_dark_finder_at, is_dark_mark as is_dark_mark_at, is_dark_reference as is_dark_reference_at, is_finder as is_finder_at, is_light_mark as is_light_mark_at, light_marks, mode_line as mode_line_of, mode_place as mode_place_of, mode_run as mode_run_of, rim_of};
+ghost use Rattle.std.specs.Bool.{OnTrue};
+ghost use Rattle.aztec_layout.specs.Core.{IsBare, dark_marks, ring_of, is_among, is_dark_fixed as is_dark_fixed_at, is_dark_finder as is_dark_finder_at, is_dark_mark as is_dark_mark_at, is_dark_reference as is_dark_reference_at, is_finder as is_finder_at, is_light_mark as is_light_mark_at, light_marks, mode_line as mode_line_of, mode_place as mode_place_of, mode_run as mode_run_of, rim_of};
 
 /// The distance of the orientation marks and the mode message from the centre.
 pub(crate) fn rim(full: bool) -> u32
@@ -16,8 +17,8 @@ pub(crate) fn mode_run(full: bool) -> u32
 }
 
 /// The distance of a module from the centre.
-fn distance(centre: u32, x: u32, y: u32) -> u32
-    ensures { result ≡ distance_of centre x y }
+fn ring(centre: u32, x: u32, y: u32) -> u32
+    ensures { result ≡ ring_of centre x y }
 {
     x.abs_diff(centre).max(y.abs_diff(centre))
 }
@@ -26,14 +27,14 @@ fn distance(centre: u32, x: u32, y: u32) -> u32
 pub(crate) fn is_finder(full: bool, centre: u32, x: u32, y: u32) -> bool
     ensures { result ≡ is_finder_at full centre x y }
 {
-    distance(centre, x, y) < rim(full)
+    ring(centre, x, y) < rim(full)
 }
 
 /// Whether a module is a dark one of the finder.
 pub(crate) fn is_dark_finder(full: bool, centre: u32, x: u32, y: u32) -> bool
     ensures { result ≡ is_dark_finder_at full centre x y }
 {
-    is_finder(full, centre, x, y) && distance(centre, x, y) % 2 == 0
+    is_finder(full, centre, x, y) && ring(centre, x, y) % 2 == 0
 }
 
 /// Whether a module is a dark orientation mark.
@@ -42,11 +43,11 @@ pub(crate) fn is_dark_mark(full: bool, centre: u32, x: u32, y: u32) -> bool
     requires fits { centre < 2 ^ 31 }
     ensures { result ≡ is_dark_mark_at full centre x y }
 {
-    stands_dark(centre - rim(full), centre + rim(full), x, y)
+    is_dark_corner(centre - rim(full), centre + rim(full), x, y)
 }
 
 /// Whether a module is one of the dark marks in a rim from `low` to `high`.
-fn stands_dark(low: u32, high: u32, x: u32, y: u32) -> bool
+fn is_dark_corner(low: u32, high: u32, x: u32, y: u32) -> bool
     requires room { low + 2 ≤ high }
     ensures { result ≡ is_among x y (dark_marks low high) }
 {
@@ -65,11 +66,11 @@ pub(crate) fn is_light_mark(full: bool, centre: u32, x: u32, y: u32) -> bool
     requires fits { centre < 2 ^ 31 }
     ensures { result ≡ is_light_mark_at full centre x y }
 {
-    stands_light(centre - rim(full), centre + rim(full), x, y)
+    is_light_corner(centre - rim(full), centre + rim(full), x, y)
 }
 
 /// Whether a module is one of the light marks in a rim from `low` to `high`.
-fn stands_light(low: u32, high: u32, x: u32, y: u32) -> bool
+fn is_light_corner(low: u32, high: u32, x: u32, y: u32) -> bool
     requires room { low + 2 ≤ high }
     ensures { result ≡ is_among x y (light_marks low high) }
 {
@@ -98,9 +99,21 @@ pub(crate) fn is_dark_fixed(full: bool, centre: u32, x: u32, y: u32) -> bool
     requires fits { centre < 2 ^ 31 }
     ensures { result ≡ is_dark_fixed_at full centre x y }
 {
+    if is_bare(centre, x, y) {
+        return false;
+    }
     is_dark_finder(full, centre, x, y)
         || is_dark_mark(full, centre, x, y)
         || is_dark_reference(full, centre, x, y)
+}
+
+/// Whether a module lies outside each core and off each line of the reference grid.
+fn is_bare(centre: u32, x: u32, y: u32) -> bool
+    ensures { OnTrue result (IsBare centre x y) }
+{
+    let across = x.abs_diff(centre);
+    let down = y.abs_diff(centre);
+    across % 16 != 0 && down % 16 != 0 && across.max(down) > 7
 }
 
 /// The column and row of a bit of the mode message.

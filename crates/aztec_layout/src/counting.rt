@@ -1,4 +1,5 @@
 ghost use Rattle.std.specs.Prelude.{◌≡◌, ◌<◌, length};
+ghost use Rattle.aztec_layout.specs.Smallest.{AreNeeds};
 ghost use Rattle.aztec_layout.specs.Stuffing.{CountsStuffed, IsWidth};
 
 use crate::fitting::Needs;
@@ -9,10 +10,7 @@ use bar_base::Bits;
 /// (ISO/IEC 24778, bit stuffing).
 pub fn needs(bits: &Bits) -> Needs
     requires { length bits.now < 1000000 }
-    ensures w6 { CountsStuffed 6 bits.now result.w6 }
-    ensures w8 { CountsStuffed 8 bits.now result.w8 }
-    ensures w10 { CountsStuffed 10 bits.now result.w10 }
-    ensures w12 { CountsStuffed 12 bits.now result.w12 }
+    ensures { AreNeeds bits.now result }
 {
     Needs {
         w6: count(bits, 6),

@@ -1,4 +1,4 @@
-ghost use Rattle.std.specs.Prelude.{◌≡◌, ◌≤◌, ◌<◌, ◌↔◌, IsTrue, IfSome, IfNone};
+ghost use Rattle.std.specs.Prelude.{◌≡◌, ◌≤◌, ◌<◌, IfSome, IfNone};
 
 /// The numbers of codewords that data needs at each width of a codeword.
 #[derive(Clone, Copy, Debug, PartialEq, Eq)]
@@ -13,16 +13,15 @@ pub struct Needs {
     pub w12: u32,
 }
 
+ghost use Rattle.aztec_layout.specs.Allowed.{CanBeAsked, IsFirstSize, NoSize};
 ghost use Rattle.aztec_layout.specs.Sizes.{IsSize};
-ghost use Rattle.aztec_layout.specs.Smallest.{IsAllowed, IsFirst, NoneHolds, needed_at, rank_of};
+ghost use Rattle.aztec_layout.specs.Smallest.{HoldsNeeds, allowed_by, needed_at, rank_of, version_named};
 
+use crate::allowed::Allowed;
 use crate::sizes::{Size, holds};
 
 /// The number of sizes.
 const SIZES: u32 = 36;
-
-/// The number of compact sizes, which are the first versions.
-const COMPACT_SIZES: u32 = 4;
 
 /// The first allowed size, by side and compact before full, that holds data of the numbers of
 /// codewords `needs` and keeps `share` percent, 0 to 50, and three more codewords for the check.
@@ -31,13 +30,30 @@ const COMPACT_SIZES: u32 = 4;
 pub fn smallest(needs: Needs, share: u32, vers: u32) -> Option<Size>
     requires shared { share ≤ 50 }
     requires versioned { vers ≤ 36 }
-    ensures first { IfSome result (λ size. IsFirst needs share vers size) }
-    ensures none { IfNone result (NoneHolds needs share vers) }
+    ensures first { IfSome result (IsFirstSize (allowed_by share vers) (HoldsNeeds needs (allowed_by share vers))) }
+    ensures none { IfNone result (NoSize (allowed_by share vers) (HoldsNeeds needs (allowed_by share vers))) }
 {
-    let counted = if vers == 0 { share } else { 0 };
+    first_size(needs, Allowed::of(share, named(vers)))
+}
+
+/// A version but 0.
+fn named(vers: u32) -> Option<u32>
+    ensures { result ≡ version_named vers }
+{
+    if vers == 0 { None } else { Some(vers) }
+}
+
+/// The first allowed size, by side and compact before full, that holds data of the numbers of
+/// codewords `needs`. None where no allowed size holds the data.
+pub fn first_size(needs: Needs, allowed: Allowed) -> Option<Size>
+    requires { CanBeAsked allowed }
+    ensures first { IfSome result (IsFirstSize allowed (HoldsNeeds needs allowed)) }
+    ensures none { IfNone result (NoSize allowed (HoldsNeeds needs allowed)) }
+{
+    let share = allowed.share();
     for rank in 0..SIZES {
         let size = ranked(rank);
-        if is_allowed(size, vers) && needed(needs, size) <= holds(size, counted) {
+        if allowed.allows(size) && needed(needs, size) <= holds(size, share) {
             return Some(size);
         }
     }
@@ -68,21 +84,8 @@ fn ranked(rank: u32) -> Size
     }
 }
 
-/// Whether a size is allowed under a version.
-fn is_allowed(size: Size, vers: u32) -> bool
-    requires { IsSize size }
-    ensures { IsTrue result ↔ IsAllowed vers size }
-{
-    let version = if size.full {
-        size.layers + COMPACT_SIZES
-    } else {
-        size.layers
-    };
-    vers == 0 || version == vers
-}
-
 /// The codewords that data needs at the width of a size.
-fn needed(needs: Needs, size: Size) -> u32
+pub fn needed(needs: Needs, size: Size) -> u32
     ensures { result ≡ needed_at needs size }
 {
     if size.layers <= 2 {

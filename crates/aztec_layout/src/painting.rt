@@ -5,7 +5,7 @@ ghost use Rattle.aztec_layout.specs.Painting.{Paints};
 ghost use Rattle.aztec_layout.specs.SymbolGrid.{IsModeDot};
 
 use crate::core_symbol::{is_dark_fixed, mode_place};
-use bar_base::{Bits, Grid};
+use bar_base::Grid;
 
 /// Makes a module dark where `dark` says so.
 pub(crate) fn dot(grid: &mut Grid, x: u32, y: u32, dark: bool)
@@ -13,8 +13,10 @@ pub(crate) fn dot(grid: &mut Grid, x: u32, y: u32, dark: bool)
     requires row { y < row_count grid.old }
     ensures { Paints grid.old grid.new (λ a b. (dark ≡ true) × (a ≡ x) × (b ≡ y)) }
 {
-    let was = grid.dark(x, y);
-    grid.set(x, y, dark | was);
+    if dark {
+        let was = grid.dark(x, y);
+        grid.set(x, y, dark | was);
+    }
 }
 
 /// Draws the finder, the orientation marks and the reference grid.
@@ -28,7 +30,7 @@ pub(crate) fn draw_fixed(grid: &mut Grid, full: bool, centre: u32)
     }
 }
 
-/// Draws what stands of them in one row.
+/// Draws those of one row.
 fn draw_fixed_row(grid: &mut Grid, full: bool, centre: u32, y: u32)
     requires room { rim_of full ≤ centre }
     requires fits { centre < 2 ^ 31 }
@@ -41,7 +43,7 @@ fn draw_fixed_row(grid: &mut Grid, full: bool, centre: u32, y: u32)
 }
 
 /// Draws the bits of a mode message.
-pub(crate) fn draw_mode(grid: &mut Grid, full: bool, centre: u32, bits: &Bits)
+pub(crate) fn draw_mode(grid: &mut Grid, full: bool, centre: u32, bits: &[bool])
     requires room { rim_of full ≤ centre }
     requires fits { centre < 2 ^ 31 }
     requires columns { centre + rim_of full < grid.old.width }
@@ -49,8 +51,8 @@ pub(crate) fn draw_mode(grid: &mut Grid, full: bool, centre: u32, bits: &Bits)
     requires bits { length bits.now ≡ 4 * mode_run_of full }
     ensures { Paints grid.old grid.new (IsModeDot full centre bits.now) }
 {
-    for bit in 0..bits.len() {
-        let (x, y) = mode_place(full, centre, bit as u32);
-        dot(grid, x, y, bits.get(bit).unwrap());
+    for (place, bit) in bits.iter().enumerate() {
+        let (x, y) = mode_place(full, centre, place as u32);
+        dot(grid, x, y, *bit);
     }
 }

@@ -1,6 +1,6 @@
-ghost use Rattle.std.specs.Prelude.{◌≡◌, ℕ, ◌+◌, ◌*◌, ◌-◌, ◌/◌, ◌^◌, ◌<◌, ◌≤◌};
-ghost use Rattle.aztec_layout.specs.Sizes.{IsSize, base_of, bits_of};
-ghost use Rattle.aztec_layout.specs.Places.{IsFree, IsPlace, bits_before, corner_at, corner_of, line_of, pairs_of};
+ghost use Rattle.std.specs.Prelude.{◌≡◌, ℕ, ◌+◌, ◌*◌, ◌-◌, ◌/◌, ◌%◌, ◌^◌, ◌<◌, ◌≤◌};
+ghost use Rattle.aztec_layout.specs.Sizes.{IsSize, base_side, layer_bits};
+ghost use Rattle.aztec_layout.specs.Places.{IsDataModule, IsBitPlace, bits_before, corner_at, corner_of, data_line, pairs_on_side};
 
 use crate::sizes::{Size, base, side};
 
@@ -8,11 +8,11 @@ use crate::sizes::{Size, base, side};
 /// placement). The bit is one of the size's data layers.
 pub fn place(size: Size, bit: u32) -> (u32, u32)
     requires sized { IsSize size }
-    requires inside { bit < bits_of size }
-    ensures place { IsPlace size bit result.0 result.1 }
-    ensures only { (x y : ℕ) → IsPlace size bit x y → (x ≡ result.0) × (y ≡ result.1) }
-    ensures apart { (q : ℕ) → IsPlace size q result.0 result.1 → q ≡ bit }
-    ensures free { IsFree size result.0 result.1 }
+    requires inside { bit < layer_bits size }
+    ensures place { IsBitPlace size bit result.0 result.1 }
+    ensures only { (x y : ℕ) → IsBitPlace size bit x y → (x ≡ result.0) × (y ≡ result.1) }
+    ensures apart { (q : ℕ) → IsBitPlace size q result.0 result.1 → q ≡ bit }
+    ensures free { IsDataModule size result.0 result.1 }
 {
     let mut before = 0;
     for layer in 0..size.layers {
@@ -29,10 +29,10 @@ pub fn place(size: Size, bit: u32) -> (u32, u32)
 pub(crate) fn place_in(size: Size, layer: u32, number: u32) -> (u32, u32)
     requires sized { IsSize size }
     requires layer { layer < size.layers }
-    requires inside { number < 8 * pairs_of size layer }
-    ensures place { IsPlace size (bits_before size layer + number) result.0 result.1 }
-    ensures free { IsFree size result.0 result.1 }
-    ensures inside { bits_before size layer + number < bits_of size }
+    requires inside { number < 8 * pairs_on_side size layer }
+    ensures place { IsBitPlace size (bits_before size layer + number) result.0 result.1 }
+    ensures free { IsDataModule size result.0 result.1 }
+    ensures inside { bits_before size layer + number < layer_bits size }
 {
     let (column, row) = corner(size, layer, number);
     (line(size, column), line(size, row))
@@ -51,8 +51,8 @@ pub(crate) fn first_bit(size: Size, layer: u32) -> u32
 pub(crate) fn pairs(size: Size, layer: u32) -> u32
     requires sized { IsSize size }
     requires layer { layer < size.layers }
-    ensures pairs { result ≡ pairs_of size layer }
-    ensures bounded { pairs_of size layer ≤ 140 }
+    ensures pairs { result ≡ pairs_on_side size layer }
+    ensures bounded { pairs_on_side size layer ≤ 140 }
 {
     let innermost = if size.full { 12 } else { 9 };
     4 * (size.layers - layer) + innermost
@@ -62,19 +62,38 @@ pub(crate) fn pairs(size: Size, layer: u32) -> u32
 fn corner(size: Size, layer: u32, number: u32) -> (u32, u32)
     requires sized { IsSize size }
     requires layer { layer < size.layers }
-    requires inside { number < 8 * pairs_of size layer }
+    requires inside { number < 8 * pairs_on_side size layer }
     ensures column { result.0 ≡ (corner_at size layer number).0 }
     ensures row { result.1 ≡ (corner_at size layer number).1 }
-    ensures column_inside { result.0 < base_of size }
-    ensures row_inside { result.1 < base_of size }
+    ensures column_inside { result.0 < base_side size }
+    ensures row_inside { result.1 < base_side size }
 {
     let run = 2 * pairs(size, layer);
     let low = 2 * layer;
     let high = base(size) - 1 - low;
-    let round = number / run;
-    let pair = number % run / 2;
+    let (round, rest) = sided(number, run);
+    let pair = rest / 2;
     let bit = number % 2;
     turned(low, high, round, pair, bit)
+}
+
+/// The side of a number of a layer, and the number on it, with no division.
+fn sided(number: u32, run: u32) -> (u32, u32)
+    requires some { 0 < run }
+    requires fits { run < 65536 }
+    requires inside { number < 4 * run }
+    ensures side { result.0 ≡ number / run }
+    ensures rest { result.1 ≡ number % run }
+{
+    if number < run {
+        (0, number)
+    } else if number < 2 * run {
+        (1, number - run)
+    } else if number < 3 * run {
+        (2, number - 2 * run)
+    } else {
+        (3, number - 3 * run)
+    }
 }
 
 /// The place of a pair's bit on side `round` of a layer from `low` to `high`.
@@ -100,8 +119,8 @@ fn turned(low: u32, high: u32, round: u32, pair: u32, bit: u32) -> (u32, u32)
 /// The column or row that is number `number` among those without reference lines.
 fn line(size: Size, number: u32) -> u32
     requires sized { IsSize size }
-    requires inside { number < base_of size }
-    ensures { result ≡ line_of size number }
+    requires inside { number < base_side size }
+    ensures { result ≡ data_line size number }
 {
     if !size.full {
         return number;

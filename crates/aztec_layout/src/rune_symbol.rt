@@ -1,12 +1,11 @@
 ghost use Rattle.std.specs.Prelude.{◌≡◌, ℕ, List, ◌<◌, All, IfOk, length, map};
 ghost use Rattle.bar_base.specs.Picture.{Picture};
-ghost use Rattle.aztec_layout.specs.Rune.{IsRune, IsRuneMessage, turned as turned_of};
+ghost use Rattle.aztec_layout.specs.Rune.{IsRune, IsRuneMessage, masked as masked_words};
 
 use crate::bit_rows::mode_bits;
-use crate::mode_message::{coded, element};
+use crate::mode_message::coded;
 use crate::painting::{draw_fixed, draw_mode};
 use bar_base::{Grid, NoMemory, Short};
-use galois::{Field, Gf16};
 use std::alloc::Global;
 
 /// The modules on a side of a rune.
@@ -18,10 +17,10 @@ pub fn rune(alloc: Global, value: u8) -> Result<Grid, NoMemory>
     ensures rune { IfOk result (IsRune value) }
     ensures only { IfOk result (λ grid. (other : Picture) → IsRune value other → other ≡ grid) }
 {
-    let bits = mode_bits(alloc, &turned(&rune_words(value)))?;
+    let bits = mode_bits(alloc, masked(&rune_words(value)).as_slice())?;
     let mut grid = Grid::new(alloc, RUNE_SIDE, RUNE_SIDE)?;
     draw_fixed(&mut grid, false, RUNE_SIDE / 2);
-    draw_mode(&mut grid, false, RUNE_SIDE / 2, &bits);
+    draw_mode(&mut grid, false, RUNE_SIDE / 2, bits.as_slice());
     Ok(grid)
 }
 
@@ -31,21 +30,18 @@ pub fn rune_words(value: u8) -> Short<7>
     ensures message { IsRuneMessage value result }
     ensures only { (others : List ℕ) → IsRuneMessage value others → others ≡ result }
 {
-    let front = [
-        element(u32::from(value / 16)),
-        element(u32::from(value % 16)),
-    ];
-    coded(&front, &mut [Gf16::zero(); 5])
+    let front = [u16::from(value / 16), u16::from(value % 16)];
+    coded(&front, &mut [0; 5])
 }
 
 /// The words as they are drawn: every second bit is turned.
-fn turned(words: &Short<7>) -> Short<7>
+fn masked(words: &Short<7>) -> Short<7>
     requires { All (λ word. word < 16) words.now }
-    ensures { result ≡ turned_of words.now }
+    ensures { result ≡ masked_words words.now }
 {
     let mut all = Short::new();
-    for place in 0..words.len() {
-        all.push(words.get(place).unwrap() ^ 10);
+    for word in words.as_slice() {
+        all.push(*word ^ 10);
     }
     all
 }

@@ -1,4 +1,4 @@
-ghost use Rattle.std.specs.Prelude.{◌≡◌, ◌≤◌};
+ghost use Rattle.std.specs.Prelude.{◌≡◌, ◌+◌, ◌*◌, ◌≤◌};
 
 /// The size of an Aztec symbol: its kind, and its number of data layers, which is 1 to 4 in a
 /// compact symbol and 1 to 32 in a full one.
@@ -10,7 +10,7 @@ pub struct Size {
     pub layers: u32,
 }
 
-ghost use Rattle.aztec_layout.specs.Sizes.{IsSize, base_of, side_of, width_of, bits_of, codewords_of, holds_of};
+ghost use Rattle.aztec_layout.specs.Sizes.{IsSize, base_side, codeword_width, codewords_of, holds_of, layer_bits, lead_bits, side_of};
 
 /// The most data codewords that the mode message of a compact symbol can name.
 const MOST_IN_COMPACT: u32 = 64;
@@ -18,7 +18,7 @@ const MOST_IN_COMPACT: u32 = 64;
 /// The modules on a side, without the reference lines of a full symbol.
 pub(crate) fn base(size: Size) -> u32
     requires { IsSize size }
-    ensures { result ≡ base_of size }
+    ensures { result ≡ base_side size }
 {
     let core = if size.full { 14 } else { 11 };
     core + 4 * size.layers
@@ -40,7 +40,7 @@ pub fn side(size: Size) -> u32
 /// The bits of a codeword: 6, 8, 10 or 12 (ISO/IEC 24778, symbol structure).
 pub fn width(size: Size) -> u32
     requires { IsSize size }
-    ensures { result ≡ width_of size }
+    ensures { result ≡ codeword_width size }
 {
     if size.layers <= 2 {
         6
@@ -53,10 +53,11 @@ pub fn width(size: Size) -> u32
     }
 }
 
-/// The bits of all data layers.
-pub(crate) fn bits(size: Size) -> u32
+/// The bits of all data layers, at most 19,968 (ISO/IEC 24778, symbol structure).
+pub fn bits(size: Size) -> u32
     requires { IsSize size }
-    ensures { result ≡ bits_of size }
+    ensures bits { result ≡ layer_bits size }
+    ensures bounded { result ≤ 19968 }
 {
     let core = if size.full { 112 } else { 88 };
     (core + 16 * size.layers) * size.layers
@@ -69,6 +70,15 @@ pub fn codewords(size: Size) -> u32
     ensures bounded { result ≤ 1664 }
 {
     bits(size) / width(size)
+}
+
+/// The bits of the data layers that are left over in front of the codewords.
+pub(crate) fn lead(size: Size) -> u32
+    requires { IsSize size }
+    ensures lead { result ≡ lead_bits size }
+    ensures fits { result + codewords_of size * codeword_width size ≡ layer_bits size }
+{
+    bits(size) - codewords(size) * width(size)
 }
 
 /// The most data codewords of a size that keeps `share` percent of its codewords, and three more,

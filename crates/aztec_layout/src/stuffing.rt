@@ -1,12 +1,12 @@
 ghost use Rattle.std.specs.Prelude.{◌≡◌, ℕ, ◌+◌, ◌-◌, ◌/◌, ◌^◌, ◌<◌, ◌≤◌, List, false, true, length, take, drop, slice_index_or, IfOk};
 ghost use Rattle.bar_base.specs.Bits.{to_bits};
-ghost use Rattle.aztec_layout.specs.Stuffing.{IsStuffed, IsWidth, IsWord, filled, is_alike as is_alike_of, taken};
+ghost use Rattle.aztec_layout.specs.Stuffing.{IsStuffed, IsWidth, IsWord, with_ones, is_alike as is_alike_of, taken};
 
 use bar_base::{Bits, NoMemory, Words};
 use std::alloc::Global;
 
 /// The stuffed codewords of `bits` at a width of 6, 8, 10 or 12 bits: the shortest list of codewords,
-/// none all zeros and none all ones, that stands for the bits and fewer ones behind them than a
+/// none all zeros and none all ones, that carries the bits and fewer ones behind them than a
 /// codeword has bits (ISO/IEC 24778, bit stuffing).
 pub fn stuff(alloc: Global, bits: &Bits, width: u32) -> Result<Words, NoMemory>
     requires { IsWidth width }
@@ -29,7 +29,7 @@ pub(crate) fn next_word(bits: &Bits, at: usize, width: u32) -> u16
     requires inside { at < length bits.now }
     requires small { at < 2 ^ 63 }
     ensures word { IsWord width result }
-    ensures here { taken width result ≡ take (length (taken width result)) (drop at (filled width bits.now)) }
+    ensures here { taken width result ≡ take (length (taken width result)) (drop at (with_ones width bits.now)) }
 {
     let number = number_at(bits, at, width);
     spared(width, number)
@@ -41,7 +41,7 @@ fn number_at(bits: &Bits, at: usize, width: u32) -> u16
     requires inside { at < length bits.now }
     requires small { at < 2 ^ 63 }
     ensures below { result < 2 ^ width }
-    ensures here { to_bits width result ≡ take width (drop at (filled width bits.now)) }
+    ensures here { to_bits width result ≡ take width (drop at (with_ones width bits.now)) }
 {
     let mut number = 0;
     for i in 0..width {
@@ -77,7 +77,7 @@ fn spared(width: u32, number: u16) -> u16
     }
 }
 
-/// How many bits a codeword stands for.
+/// How many bits a codeword carries.
 pub(crate) fn taken_length(width: u32, word: u16) -> usize
     requires { IsWidth width }
     ensures taken { result ≡ length (taken width word) }

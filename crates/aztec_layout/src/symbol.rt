@@ -1,7 +1,8 @@
 ghost use Rattle.std.specs.Prelude.{◌≡◌, ◌<◌, ◌≤◌, false, IfOk, length};
 ghost use Rattle.bar_base.specs.Picture.{Picture};
+ghost use Rattle.aztec_layout.specs.ModeMessage.{CanHold};
 ghost use Rattle.aztec_layout.specs.Sizes.{IsSize, codewords_of};
-ghost use Rattle.aztec_layout.specs.SymbolGrid.{IsSymbol, ShowsAll};
+ghost use Rattle.aztec_layout.specs.SymbolGrid.{IsSymbolGrid, ShowsAll};
 
 use crate::bit_rows::{data_bits, mode_bits};
 use crate::data_painting::draw_data;
@@ -16,20 +17,18 @@ use std::alloc::Global;
 /// symbol structure). Of each codeword the lowest bits are drawn, as many as the size's width.
 pub fn draw(alloc: Global, size: Size, held: u32, words: &Words) -> Result<Grid, NoMemory>
     requires sized { IsSize size }
-    requires some { 1 ≤ held }
-    requires few { held ≤ codewords_of size }
-    requires compact { size.full ≡ false → held ≤ 64 }
+    requires held { CanHold size held }
     requires counted { length words.now ≡ codewords_of size }
-    ensures symbol { IfOk result (λ grid. IsSymbol size held words.now grid) }
-    ensures only { IfOk result (λ grid. (other : Picture) → IsSymbol size held words.now other → other ≡ grid) }
+    ensures symbol { IfOk result (λ grid. IsSymbolGrid size held words.now grid) }
+    ensures only { IfOk result (λ grid. (other : Picture) → IsSymbolGrid size held words.now other → other ≡ grid) }
     ensures shown { IfOk result (λ grid. ShowsAll size held words.now grid) }
 {
     let side = side(size);
-    let modes = mode_bits(alloc, &mode_words(size, held))?;
-    let row = data_bits(alloc, size, words)?;
+    let modes = mode_bits(alloc, mode_words(size, held).as_slice())?;
+    let row = data_bits(alloc, size, words.as_slice())?;
     let mut grid = Grid::new(alloc, side, side)?;
     draw_fixed(&mut grid, size.full, side / 2);
-    draw_mode(&mut grid, size.full, side / 2, &modes);
-    draw_data(&mut grid, size, &row);
+    draw_mode(&mut grid, size.full, side / 2, modes.as_slice());
+    draw_data(&mut grid, size, row.as_slice());
     Ok(grid)
 }

@@ -1,8 +1,8 @@
 //! Worked symbols, and values by hand.
 
 use crate::{
-    Needs, Size, WordFault, codewords, draw, finder, mode_read, mode_words, needs, place, rune,
-    rune_words, side, smallest, stuff, unstuff,
+    Allowed, Needs, NoFit, Size, WordFault, codewords, codewords_read, draw, finder, fit,
+    mode_read, mode_words, needs, place, rune, rune_words, side, smallest, stuff, unstuff, width,
 };
 use bar_base::{Bits, Grid, NoMemory, Words};
 use std::alloc::Global;
@@ -91,29 +91,59 @@ fn is_stuffed<R: Abort>(
     Ok(holds_words(&words, expected) && needs(&bits).w6 as usize == expected.len())
 }
 
+// Each size with its side, the bits of a codeword and the codewords, by the formulas of ISO/IEC 24778, in the order of the versions.
+const SIZES: [(u32, u32, u32); 36] = [
+    (15, 6, 17),
+    (19, 6, 40),
+    (23, 8, 51),
+    (27, 8, 76),
+    (19, 6, 21),
+    (23, 6, 48),
+    (27, 8, 60),
+    (31, 8, 88),
+    (37, 8, 120),
+    (41, 8, 156),
+    (45, 8, 196),
+    (49, 8, 240),
+    (53, 10, 230),
+    (57, 10, 272),
+    (61, 10, 316),
+    (67, 10, 364),
+    (71, 10, 416),
+    (75, 10, 470),
+    (79, 10, 528),
+    (83, 10, 588),
+    (87, 10, 652),
+    (91, 10, 720),
+    (95, 10, 790),
+    (101, 10, 864),
+    (105, 10, 940),
+    (109, 10, 1020),
+    (113, 12, 920),
+    (117, 12, 992),
+    (121, 12, 1066),
+    (125, 12, 1144),
+    (131, 12, 1224),
+    (135, 12, 1306),
+    (139, 12, 1392),
+    (143, 12, 1480),
+    (147, 12, 1570),
+    (151, 12, 1664),
+];
+
 #[test]
-fn sides_and_codewords(rt: HostRuntime) {
-    let sides = [
-        19, 23, 27, 31, 37, 41, 45, 49, 53, 57, 61, 67, 71, 75, 79, 83, 87, 91, 95, 101, 105, 109,
-        113, 117, 121, 125, 131, 135, 139, 143, 147, 151,
-    ];
-    for layers in 1..33u32 {
-        let size = Size { full: true, layers };
-        assert!(rt; side(size) == sides[layers as usize - 1]);
+fn the_36_sizes(rt: HostRuntime) {
+    for (place, (modules, bits, words)) in SIZES.iter().enumerate() {
+        match Allowed::of(23, Some(place as u32 + 1)) {
+            Allowed::Named(size) => {
+                assert_eq!(rt;
+                    (side(size), width(size), codewords(size)),
+                    (*modules, *bits, *words)
+                );
+            }
+            Allowed::AtShare(_) => assert!(rt; false),
+        }
     }
-    let compact = [(15, 17), (19, 40), (23, 51), (27, 76)];
-    for layers in 1..5u32 {
-        let size = Size {
-            full: false,
-            layers,
-        };
-        assert!(rt; (side(size), codewords(size)) == compact[layers as usize - 1]);
-    }
-    let largest = Size {
-        full: true,
-        layers: 32,
-    };
-    assert!(rt; codewords(largest) == 1664);
 }
 
 #[test]
@@ -130,6 +160,8 @@ fn worked_symbol(rt: HostRuntime) -> Result<(), Fail> {
     for (i, number) in [0u8, 9, 12, 2, 3, 1, 9].iter().enumerate() {
         assert!(rt; modes.get(i) == Some(*number));
     }
+    let read = codewords_read(rt.alloc(), &grid, COMPACT_ONE)?;
+    assert!(rt; holds_words(&read, &WORKED));
     grid.set(9, 5, false);
     grid.set(7, 7, false);
     assert!(rt; grid.width() == 15 && grid.rows() == 15);
@@ -233,24 +265,6 @@ fn smallest_sizes(rt: HostRuntime) {
         layers: 1,
     });
     assert!(rt; smallest(letter, 23, 5) == full_one);
-    let last = Needs {
-        w6: 2600,
-        w8: 1950,
-        w10: 1560,
-        w12: 1278,
-    };
-    let largest = Some(Size {
-        full: true,
-        layers: 32,
-    });
-    assert!(rt; smallest(last, 23, 0) == largest);
-    let over = Needs {
-        w6: 2600,
-        w8: 1950,
-        w10: 1560,
-        w12: 1279,
-    };
-    assert!(rt; smallest(over, 23, 0).is_none());
     let full_compact = Needs {
         w6: 85,
         w8: 64,
@@ -272,4 +286,18 @@ fn first_places(rt: HostRuntime) {
         layers: 5,
     };
     assert!(rt; place(full_five, 4) == (0, 3));
+}
+
+// 85 ones are stuffed in 17 codewords of 6 bits, and compact 1 holds 14 of its 17.
+#[test]
+fn what_does_not_fit(rt: HostRuntime) -> Result<(), Fail> {
+    let bits = same_bits(rt.alloc(), 85, true)?;
+    assert!(rt; bits.len() < 1_000_000);
+    let misfit = NoFit {
+        needed: 17,
+        last: COMPACT_ONE,
+        held: 14,
+    };
+    assert!(rt; fit(&bits, Allowed::Named(COMPACT_ONE)) == Err(misfit));
+    Ok(())
 }

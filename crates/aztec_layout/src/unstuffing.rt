@@ -1,20 +1,19 @@
 ghost use Rattle.std.specs.Prelude.{◌≡◌, ◌++◌, ◌∷◌, [], ◌^◌, ◌<◌, ◌≤◌, All, IfOk, IfErr, IsTrue, ◌↔◌, OnOk, length};
-ghost use Rattle.bar_base.specs.Bits.{to_bits};
-ghost use Rattle.aztec_layout.specs.Stuffing.{IsWidth, IsWord, IsBadAt, taken, unstuffed};
+ghost use Rattle.aztec_layout.specs.Stuffing.{IsWidth, IsWord, IsWordFault, taken, unstuffed};
 
 use crate::stuffing::{half, is_alike};
-use bar_base::{Bits, NoMemory, Words};
+use bar_base::{Bits, NoMemory, Words, push_bits};
 use std::alloc::Global;
 use thiserror::Error;
 
-/// Why codewords stand for no bits.
+/// Why codewords carry no bits.
 #[derive(Debug, Drop, Error)]
 pub enum WordFault {
     /// No memory was found.
     #[error("NoMemory")]
     NoMemory,
     /// The codeword at this place, counted from 0, is all zeros or all ones.
-    #[error("BadWord({0})")]
+    #[error("BadWord")]
     BadWord(usize),
 }
 
@@ -29,7 +28,7 @@ impl From<NoMemory> for WordFault {
     }
 }
 
-/// The bits that codewords of 6, 8, 10 or 12 bits stand for: each codeword's bits, without the last
+/// The bits that codewords of 6, 8, 10 or 12 bits carry: each codeword's bits, without the last
 /// where those in front of it are alike (ISO/IEC 24778, bit stuffing). BadWord comes exactly where a
 /// codeword is all zeros or all ones, with the place of the first, unless memory is wanting; a
 /// number of more bits than the width counts as such a codeword.
@@ -37,15 +36,14 @@ pub fn unstuff(alloc: Global, words: &Words, width: u32) -> Result<Bits, WordFau
     requires { IsWidth width }
     ensures unstuffed { IfOk result (λ bits. bits ≡ unstuffed width words.now) }
     ensures good { OnOk result (All (IsWord width) words.now) }
-    ensures bad { IfErr result (IsBadAt width words.now) }
+    ensures bad { IfErr result (IsWordFault width words.now) }
 {
     let mut bits = Bits::new(alloc);
-    for place in 0..words.len() {
-        let word = words.get(place).unwrap();
-        if !is_word(width, word) {
+    for (place, word) in words.as_slice().iter().enumerate() {
+        if !is_word(width, *word) {
             return Err(WordFault::BadWord(place));
         }
-        push_taken(&mut bits, width, word)?;
+        push_taken(&mut bits, width, *word)?;
     }
     Ok(bits)
 }
@@ -58,25 +56,14 @@ fn is_word(width: u32, word: u16) -> bool
     word != 0 && word < 2 * half(width) - 1
 }
 
-/// Puts the bits that a codeword stands for at the end.
+/// Puts the bits that a codeword carries at the end.
 fn push_taken(bits: &mut Bits, width: u32, word: u16) -> Result<(), NoMemory>
     requires wide { IsWidth width }
     ensures { OnOk result (bits.new ≡ bits.old ++ taken width word) }
 {
     if is_alike(width, word) {
-        push_bits(bits, width - 1, word / 2)
+        push_bits(bits, width - 1, u32::from(word / 2))
     } else {
-        push_bits(bits, width, word)
+        push_bits(bits, width, u32::from(word))
     }
-}
-
-/// Puts the lowest `width` bits of a number at the end, the highest first.
-pub(crate) fn push_bits(bits: &mut Bits, width: u32, number: u16) -> Result<(), NoMemory>
-    requires { width ≤ 16 }
-    ensures { OnOk result (bits.new ≡ bits.old ++ to_bits width number) }
-{
-    for i in 0..width {
-        bits.push((number >> (width - 1 - i)) % 2 == 1)?;
-    }
-    Ok(())
 }

@@ -1,16 +1,12 @@
-use Rattle.std.proofs.Common.{◌/◌, ◌%◌, ◌∙◌}
+use Rattle.std.proofs.Common.{ℕ, List, [], ◌∷◌, ◌/◌, ◌%◌, subst}
+use Rattle.galois.specs.CheckNumbers.{IsContinuation, polynomial_of}
 use Rattle.aztec_layout.proofs.DrawnLemmas.{rune_message, rune_once}
 use Rattle.aztec_layout.proofs.ModeLemmas.{same_two}
 use Rattle.aztec_layout.proofs.rune_symbol.rune_words.Goals as goal
 
-pub returns-clause-message : goal.returns-clause-message
-returns-clause-message c =
-    rune_message c.args.value _ c.coded.result
-    (same_two _ _ (c.args.value / 16) (c.args.value % 16) (c.element.ensures ∙ c.from.ensures) (c.element-2.ensures ∙ c.from-2.ensures))
-    c.coded.ensures
-
-pub returns-clause-only : goal.returns-clause-only
-returns-clause-only c = λ others other.
-    rune_once c.args.value _ c.coded.result others
-    (same_two _ _ (c.args.value / 16) (c.args.value % 16) (c.element.ensures ∙ c.from.ensures) (c.element-2.ensures ∙ c.from-2.ensures))
-    c.coded.ensures other
+pub returns : goal.returns
+returns c =
+    let coded : IsContinuation 4 (polynomial_of 4) (c.args.value / 16 ∷ c.args.value % 16 ∷ []) 5 c.coded.result =
+    subst (λ (front : List ℕ). IsContinuation 4 (polynomial_of 4) front 5 c.coded.result)
+    (same_two _ _ (c.args.value / 16) (c.args.value % 16) c.from.ensures c.from-2.ensures) c.coded.ensures in
+    record { message = rune_message c.args.value c.coded.result coded; only = λ others other. rune_once c.args.value c.coded.result others coded other }
