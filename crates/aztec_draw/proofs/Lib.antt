@@ -1,3 +1,3 @@
-pub mod Carried
-pub mod Choice
+pub mod Held
+pub mod Refusals
 pub mod Spelled

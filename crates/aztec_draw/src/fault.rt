@@ -1,4 +1,4 @@
-use aztec_layout::Size;
+use aztec_layout::NoFit;
 use bar_base::NoMemory;
 use thiserror::Error;
 
@@ -8,10 +8,9 @@ pub enum DrawFault {
     /// No memory was found.
     #[error("NoMemory")]
     NoMemory,
-    /// No allowed size holds the data: the last one, by side, would need `needed` data codewords and holds
-    /// `held`.
-    #[error("{needed} data codewords where {held} fit")]
-    NoFit { needed: u32, size: Size, held: u32 },
+    /// No allowed size holds the data: what the last one, by side, needs for it and holds.
+    #[error("NoFit")]
+    NoFit(NoFit),
 }
 
 impl From<NoMemory> for DrawFault {
@@ -22,5 +21,16 @@ impl From<NoMemory> for DrawFault {
 
     fn from(_: NoMemory) -> DrawFault {
         DrawFault::NoMemory
+    }
+}
+
+impl From<NoFit> for DrawFault {
+    ghost use Rattle.std.specs.Prelude.{◌≡◌};
+    ghost use Rattle.aztec_draw.specs.declared.fault.DrawFault.TheVariants.{NoFit as Misfits};
+
+    ghost from_gives = { λ misfit fault. fault ≡ Misfits misfit };
+
+    fn from(misfit: NoFit) -> DrawFault {
+        DrawFault::NoFit(misfit)
     }
 }

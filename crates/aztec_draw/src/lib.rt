@@ -3,12 +3,13 @@
 #![tactic(auto)]
 
 mod codewords;
+mod drawing;
 mod fault;
-mod refusal;
 mod symbol;
 
+pub use drawing::draw_elements;
 pub use fault::DrawFault;
-pub use symbol::{Symbol, draw_elements};
+pub use symbol::Symbol;
 
 #[cfg(test)]
 mod tests;

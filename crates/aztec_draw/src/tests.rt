@@ -1,7 +1,9 @@
 //! A worked symbol, and a version that holds what it holds, by hand.
 
+ghost use Rattle.aztec_layout.specs.Allowed.{CanBeAsked};
+
 use crate::{DrawFault, Symbol, draw_elements};
-use aztec_layout::Size;
+use aztec_layout::{Allowed, NoFit, Size};
 use bar_base::{Bits, Element, Elements, Grid};
 use std::alloc::Global;
 use std::process::Abort;
@@ -36,16 +38,16 @@ fn draw_bytes<R: Abort>(
     rt: &R,
     alloc: Global,
     bytes: &[u8],
-    share: u32,
-    version: u32,
-) -> Result<Symbol, DrawFault> {
+    allowed: Allowed,
+) -> Result<Symbol, DrawFault>
+    requires { CanBeAsked allowed }
+{
     let mut elements = Elements::new(alloc);
     for byte in bytes {
         elements.push(Element::Byte(*byte))?;
     }
     assert!(rt; !elements.is_empty() && elements.len() <= 8192);
-    assert!(rt; share <= 50 && version <= 36);
-    draw_elements(alloc, &elements, share, version)
+    draw_elements(alloc, &elements, allowed)
 }
 
 fn has_bits(bits: &Bits, expected: &[u8]) -> bool {
@@ -74,7 +76,7 @@ fn shows_line(grid: &Grid, y: u32, line: &[u8]) -> bool {
 
 #[test]
 fn worked_symbol(rt: HostRuntime) -> Result<(), Fail> {
-    let symbol = draw_bytes(&rt, rt.alloc(), b"Code 2D!", 23, 0)?;
+    let symbol = draw_bytes(&rt, rt.alloc(), b"Code 2D!", Allowed::of(23, None))?;
     assert!(rt; has_bits(&symbol.spelling, WORKED_BITS));
     assert_eq!(rt; symbol.size, COMPACT_ONE);
     assert_eq!(rt; symbol.held, 10);
@@ -88,12 +90,28 @@ fn worked_symbol(rt: HostRuntime) -> Result<(), Fail> {
 // 16 letters have 80 bits, 14 codewords of 6 bits; 17 have 85, one codeword more. Compact 1 has 17 codewords.
 #[test]
 fn version_with_any_share_holds_all_but_three(rt: HostRuntime) -> Result<(), Fail> {
-    let symbol = draw_bytes(&rt, rt.alloc(), b"AAAAAAAAAAAAAAAA", 50, 1)?;
+    let symbol = draw_bytes(
+        &rt,
+        rt.alloc(),
+        b"AAAAAAAAAAAAAAAA",
+        Allowed::of(50, Some(1)),
+    )?;
     assert_eq!(rt; symbol.held, 14);
-    match draw_bytes(&rt, rt.alloc(), b"AAAAAAAAAAAAAAAAA", 50, 1) {
-        Err(DrawFault::NoFit { needed, size, held }) => {
-            assert_eq!(rt; (needed, size.layers, held), (15, 1, 14));
-            assert!(rt; !size.full);
+    match draw_bytes(
+        &rt,
+        rt.alloc(),
+        b"AAAAAAAAAAAAAAAAA",
+        Allowed::of(50, Some(1)),
+    ) {
+        Err(DrawFault::NoFit(misfit)) => {
+            assert_eq!(rt;
+                misfit,
+                NoFit {
+                    needed: 15,
+                    last: COMPACT_ONE,
+                    held: 14
+                }
+            );
         }
         _ => assert!(rt; false),
     }
