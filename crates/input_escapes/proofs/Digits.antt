@@ -7,7 +7,7 @@ use Rattle.std.proofs.lemmas.Bool.{lt-ltb, ltb-true}
 use Rattle.std.proofs.lemmas.Grind.{pow_more}
 use Rattle.std.proofs.lemmas.Int.Digits.{digits_value_more}
 use Rattle.std.proofs.lemmas.List.Folds.{list_all_at, list_all_more}
-use Rattle.input_escapes.specs.Escapes.{Bytes, are_digits, number_of}
+use Rattle.input_escapes.specs.Escapes.{Bytes, are_digits, number_written}
 
 -- the first i bytes are digits of the base and write the number
 pub record Read (base : ℕ) (digits : Bytes) (i number : ℕ) : Type 0 where
@@ -49,8 +49,8 @@ read_more base digits i number d so_far within low digit is = record {
 }
 
 -- all of the digits
-pub all_read : (base : ℕ) (digits : Bytes) (i number : ℕ) → Read base digits i number → length digits ≤ i → Some number ≡ number_of base digits
-unfolding number_of
+pub all_read : (base : ℕ) (digits : Bytes) (i number : ℕ) → Read base digits i number → length digits ≤ i → Some number ≡ number_written base digits
+unfolding number_written
 all_read base digits i number so_far past =
     let whole = take_all i digits past in
     let value = so_far.value ∙ ap (digits_value base) whole in
@@ -62,8 +62,8 @@ not_true true never = absurd (never refl)
 not_true false _ = refl
 
 -- a byte that is no digit of the base
-pub not_read : (base : ℕ) (digits : Bytes) (i : ℕ) → i < length digits → (digit_value (get_or digits i 0) < base → ⊥) → None ≡ number_of base digits
-unfolding number_of
+pub not_read : (base : ℕ) (digits : Bytes) (i : ℕ) → i < length digits → (digit_value (get_or digits i 0) < base → ⊥) → None ≡ number_written base digits
+unfolding number_written
 not_read base digits i within no_digit =
     let test : Bool = nat_lt (digit_value (get_or digits i 0)) base in
     let fails : nat_lt (digit_value (get_or digits i 0)) base ≡ false = not_true test (λ e. no_digit (ltb-true (digit_value (get_or digits i 0)) base e)) in

@@ -1,6 +1,6 @@
 -- The piece at the front of a text depends on no byte after it, so no piece begins another.
 use Rattle.std.proofs.Common.{◌≡◌, ℕ, suc, ◌+◌, ◌-◌, ◌<◌, ◌≤◌, ◌∙◌, [], ◌∷◌, ◌==◌, Bool, true, false, nat_lt, Option, Some, None, length, get_or, take, drop, if◌then◌else◌, refl, ap, sym, arith}
-use Rattle.input_escapes.specs.Escapes.{Bytes, after_backslash, base_of, bounded, byte_of, digits_of, form_head, form_of, head, letter_head, number_at, number_head, number_of, numbered, piece, stands_for}
+use Rattle.input_escapes.specs.Escapes.{Bytes, after_backslash, base_of, bounded, byte_of, digits_of, form_head, form_of, head, letter_head, number_at, number_head, number_written, numbered, piece, stands_for}
 use Rattle.input_escapes.specs.declared.form.NumberForm.{NumberForm}
 
 -- a text that is not empty, by its first byte and the rest
@@ -15,18 +15,18 @@ letter_first [] some = absurd (omega arith)
 letter_first (letter ∷ rest) some = refl
 
 -- a number that is read is there whole, and is read of every text that begins with its digits
-number_there : (base count k : ℕ) (t : Bytes) → number_at base count t ≡ Some k → (count ≤ length t) × (number_of base (take count t) ≡ Some k)
+number_there : (base count k : ℕ) (t : Bytes) → number_at base count t ≡ Some k → (count ≤ length t) × (number_written base (take count t) ≡ Some k)
 unfolding number_at
 number_there base count k t is =
-    elim (nat_lt (length t) count) as (λ b. nat_lt (length t) count ≡ b → (if b then None else number_of base (take count t)) ≡ Some k → (count ≤ length t) × (number_of base (take count t) ≡ Some k)) [
+    elim (nat_lt (length t) count) as (λ b. nat_lt (length t) count ≡ b → (if b then None else number_written base (take count t)) ≡ Some k → (count ≤ length t) × (number_written base (take count t) ≡ Some k)) [
       | true ↦ λ short none. cc
       | false ↦ λ long some. (grind arith, some)
     ] refl is
 
-number_again : (base count : ℕ) (u : Bytes) → count ≤ length u → number_at base count u ≡ number_of base (take count u)
+number_again : (base count : ℕ) (u : Bytes) → count ≤ length u → number_at base count u ≡ number_written base (take count u)
 unfolding number_at
 number_again base count u long =
-    elim (nat_lt (length u) count) as (λ b. nat_lt (length u) count ≡ b → (if b then None else number_of base (take count u)) ≡ number_of base (take count u)) [
+    elim (nat_lt (length u) count) as (λ b. nat_lt (length u) count ≡ b → (if b then None else number_written base (take count u)) ≡ number_written base (take count u)) [
       | true ↦ λ short. absurd (grind arith)
       | false ↦ λ _. refl
     ] refl
@@ -50,7 +50,7 @@ unfolding number_head
 number_local f t u n b is same long =
     elim (number_at (base_of f) (digits_of f) t) as (λ o. number_at (base_of f) (digits_of f) t ≡ o → numbered f o ≡ piece n b → number_head f u ≡ piece n b) [
       | None ↦ λ _ impossible. cc
-      | Some k ↦ λ read e. ap (numbered f) (number_again (base_of f) (digits_of f) u long ∙ ap (number_of (base_of f)) same
+      | Some k ↦ λ read e. ap (numbered f) (number_again (base_of f) (digits_of f) u long ∙ ap (number_written (base_of f)) same
           ∙ (number_there (base_of f) (digits_of f) k t read).1) ∙ e
     ] refl is
 

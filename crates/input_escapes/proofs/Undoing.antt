@@ -5,7 +5,7 @@ use Rattle.std.proofs.lemmas.Bool.{eqb-true, lt-ltb}
 use Rattle.std.proofs.lemmas.Bool.Decides.{nat_tests}
 use Rattle.std.specs.Str.Parse.{digits_value}
 use Rattle.std.specs.List.{All, flat_map}
-use Rattle.input_escapes.specs.Escapes.{Bytes, after_backslash, bounded, byte_of, escaped, escaped_in_text, form_of, head, hexadecimal, number_at, number_head, number_of, numbered, piece, stands_for}
+use Rattle.input_escapes.specs.Escapes.{Bytes, after_backslash, bounded, byte_of, escaped, escaped_in_text, form_of, head, hexadecimal, number_at, number_head, number_written, numbered, piece, stands_for}
 use Rattle.input_escapes.specs.Texts.{IsPiece, StandsFor}
 use Rattle.input_escapes.specs.declared.form.NumberForm.TheVariants.{Hexadecimal}
 
@@ -13,8 +13,8 @@ use Rattle.input_escapes.specs.declared.form.NumberForm.TheVariants.{Hexadecimal
 digit_read : (d : ℕ) → d < 16 → digit_value (hexadecimal d) ≡ d
 digit_read d below = grind (arith, nat_tests)
 
-two_digits : (x y n m : ℕ) → digit_value x ≡ n → digit_value y ≡ m → n < 16 → m < 16 → number_of 16 (x ∷ y ∷ []) ≡ Some (n * 16 + m)
-unfolding number_of
+two_digits : (x y n m : ℕ) → digit_value x ≡ n → digit_value y ≡ m → n < 16 → m < 16 → number_written 16 (x ∷ y ∷ []) ≡ Some (n * 16 + m)
+unfolding number_written
 two_digits x y n m is_n is_m low_n low_m =
     let first : nat_lt (digit_value x) 16 ≡ true = lt-ltb (digit_value x) 16 (omega arith) in
     let second : nat_lt (digit_value y) 16 ≡ true = lt-ltb (digit_value y) 16 (omega arith) in

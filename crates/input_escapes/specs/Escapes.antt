@@ -67,12 +67,12 @@ stands_for _ n = one_byte n
 abbrev pub are_digits : ℕ → Bytes → Bool
 are_digits base ds = list_all (λ d. nat_lt (digit_value d) base) ds
 
-unfoldable pub number_of : ℕ → Bytes → Option ℕ
-number_of base ds = if are_digits base ds then Some (digits_value base ds) else None
+unfoldable pub number_written : ℕ → Bytes → Option ℕ
+number_written base ds = if are_digits base ds then Some (digits_value base ds) else None
 
 -- the number of so many digits at the front of a text
 unfoldable pub number_at : ℕ → ℕ → Bytes → Option ℕ
-number_at base count text = if nat_lt (length text) count then None else number_of base (take count text)
+number_at base count text = if nat_lt (length text) count then None else number_written base (take count text)
 
 -- what stands at the front of a text: nothing, a piece of a length that stands for bytes, or a
 -- backslash that begins no piece

@@ -1,6 +1,6 @@
 //! The piece with which a text begins.
 ghost use Rattle.std.specs.Prelude.{◌≡◌, ◌+◌, ◌≤◌, ◌<◌, IfOk, IfSome, length};
-ghost use Rattle.input_escapes.specs.Escapes.{after_backslash, form_head, form_of, head, number_at, number_head, number_of, seen};
+ghost use Rattle.input_escapes.specs.Escapes.{after_backslash, form_head, form_of, head, number_at, number_head, number_written, seen};
 
 use crate::form::{NumberForm, Value, byte_of, form_of};
 
@@ -93,13 +93,13 @@ fn number_at(base: u32, count: usize, text: &[u8]) -> Option<u32>
     if text.len() < count {
         return None;
     }
-    number_of(base, &text[..count])
+    number_written(base, &text[..count])
 }
 
-fn number_of(base: u32, digits: &[u8]) -> Option<u32>
+fn number_written(base: u32, digits: &[u8]) -> Option<u32>
     requires base { (2 ≤ base) × (base ≤ 16) }
     requires few { length digits.now ≤ 6 }
-    ensures { result ≡ number_of base digits.now }
+    ensures { result ≡ number_written base digits.now }
 {
     let mut number = 0;
     for digit in digits {

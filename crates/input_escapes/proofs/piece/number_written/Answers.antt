@@ -1,7 +1,7 @@
 use Rattle.std.proofs.Common.{◌≡◌, ◌<◌, ◌∙◌, ap, get_or, subst, sym, arith}
 use Rattle.std.specs.Char.{digit_value}
 use Rattle.input_escapes.proofs.Digits.{all_read, more_fits, not_read, read_more, times_fits}
-use Rattle.input_escapes.proofs.piece.number_of.Goals as goal
+use Rattle.input_escapes.proofs.piece.number_written.Goals as goal
 
 pub overflow_mul-number : goal.overflow_mul-number
 overflow_mul-number c =
