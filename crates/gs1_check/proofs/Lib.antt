@@ -1,0 +1,7 @@
+mod Digits
+mod Places
+mod ReadTexts
+mod SectionStrings
+mod ShownBodies
+mod TableFacts
+mod TextBodies

@@ -1,0 +1,4 @@
+pub mod ElementStrings
+pub mod Identifiers
+pub mod LeadingStrings
+pub mod Sections
