@@ -1,0 +1,11 @@
+pub mod RuleLaws
+pub mod StepLaws
+pub mod OwnLaws
+pub mod TableLaws
+pub mod BoundLaws
+pub mod Order
+pub mod PickLaws
+pub mod WayLaws
+pub mod SymbolLaws
+pub mod OneReading
+pub mod KindLaws

@@ -1,0 +1,9 @@
+pub mod States
+pub mod Values
+pub mod Rules
+pub mod Spelling
+pub mod Steps
+pub mod Costs
+pub mod Own
+pub mod Picks
+pub mod Symbol
