@@ -1,0 +1,3 @@
+pub mod ItfLaws
+pub mod TableLaws
+pub mod TableFacts
