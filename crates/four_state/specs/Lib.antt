@@ -1,0 +1,2 @@
+pub mod FourState
+pub mod Structure
