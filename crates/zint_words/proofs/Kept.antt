@@ -1,10 +1,11 @@
 -- What values that break no rule are known to keep.
-use Rattle.std.proofs.Common.{◌≡◌, ℕ, zero, suc, ◌-◌, ◌<◌, ◌∙◌, List, [], ◌∷◌, Bool, true, false, not, Some, None, length, get_or, if◌then◌else◌, refl, ap, arith, lit<}
+use Rattle.std.proofs.Common.{◌≡◌, ℕ, zero, suc, ◌+◌, ◌-◌, ◌<◌, List, [], ◌∷◌, Bool, true, false, not, Some, None, length, get_or, if◌then◌else◌, refl, arith, lit<}
 use Rattle.std.specs.Prelude.{find}
-use Rattle.zint_words.specs.CommandLine.{Values}
-use Rattle.zint_words.specs.Rules.{breaks, first_broken, rules}
-use Rattle.zint_words.specs.Settings.{Request, form_of, request_by, symbol_of}
-use Rattle.zint_words.specs.Values.{is_built_form, is_built_symbol}
+use Rattle.zint_words.specs.CommandLine.{Values, option_names}
+use Rattle.zint_words.specs.Rules.{all_rules, breaks, first_broken, is_built}
+use Rattle.zint_words.specs.DrawingOptions.{output_form_of, symbology_of}
+use Rattle.zint_words.specs.Forms.{is_built_form}
+use Rattle.zint_words.specs.Symbologies.{is_built_symbology}
 use Rattle.zint_words.specs.declared.rules.Rule.TheVariants.{Message}
 
 -- where nothing is found, no element passes
@@ -23,11 +24,16 @@ not_false : (b : Bool) → not b ≡ false → b ≡ true
 not_false true e = refl
 not_false false e = cc
 
--- the symbol and the form are built, by the last two rules
-pub built : (v : Values) (request : Request) → None ≡ first_broken v → request ≡ request_by v
-    → (is_built_symbol request.symbol ≡ true) × (is_built_form request.form ≡ true)
-unfolding first_broken breaks request_by
-built v request kept is_request = (
-  ap (λ (r : Request). is_built_symbol r.symbol) is_request ∙ not_false (is_built_symbol (symbol_of v)) (none_passes (breaks v) rules (length rules - 2) Message (lit< tt) kept),
-  ap (λ (r : Request). is_built_form r.form) is_request ∙ not_false (is_built_form (form_of v)) (none_passes (breaks v) rules (length rules - 1) Message (lit< tt) kept),
-)
+-- a rule of the list is not broken where none is
+pub kept : (v : Values) (i : ℕ) → i < length all_rules → None ≡ first_broken v → breaks v (get_or all_rules i Message) ≡ false
+unfolding first_broken
+kept v i below none = none_passes (breaks v) all_rules i Message below none
+
+-- the symbology and the form are built, by the first and the sixth of the rules that are tested last
+pub symbology_built : (v : Values) → None ≡ first_broken v → is_built_symbology (symbology_of v) ≡ true
+unfolding all_rules breaks is_built
+symbology_built v none = not_false _ (kept v (length all_rules - length option_names) (lit< tt) none)
+
+pub form_built : (v : Values) → None ≡ first_broken v → is_built_form (output_form_of v) ≡ true
+unfolding all_rules breaks is_built
+form_built v none = not_false _ (kept v (length all_rules - length option_names + 5) (lit< tt) none)

@@ -1,4 +1,5 @@
 pub mod Building
+pub mod Finding
 pub mod Kept
 pub mod Matching
 pub mod Numbers

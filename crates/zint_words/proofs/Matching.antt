@@ -7,15 +7,15 @@ use Rattle.clap.specs.declared.error.kind.ErrorKind.{ErrorKind}
 use Rattle.clap.specs.declared.error.kind.ErrorKind.TheVariants as kind
 use Rattle.clap.specs.declared.parser.matches.ArgMatches.{ArgMatches}
 use Rattle.clap.proofs.OnLiterals.{clap_on_literals}
-use Rattle.zint_words.specs.CommandLine.{is_refused, values_by, values_in, zint}
+use Rattle.zint_words.specs.CommandLine.{is_refused, long_name, option_row, rule_for, short_name, taken_by, values_by, values_in, zint}
 
 -- the command is one of which `clap` gives the matches and the kind of each refusal
 pub simple_and_free : is_simple_and_free zint ≡ true
-unfolding zint clap_on_literals
+unfolding zint rule_for long_name short_name taken_by option_row clap_on_literals
 simple_and_free = refl
 
 pub simple : is_simple zint ≡ true
-unfolding zint clap_on_literals
+unfolding zint rule_for long_name short_name taken_by option_row clap_on_literals
 simple = refl
 
 -- the matches hold the values that the words give

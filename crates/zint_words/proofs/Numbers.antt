@@ -6,7 +6,7 @@ use Rattle.std.specs.Str.Parse.{ParsesUnsigned, digits_value, digits_value_after
 use Rattle.std.proofs.lemmas.Bool.{leb-true, ltb-true}
 use Rattle.std.proofs.lemmas.Str.Parse.{IsNumeralModel, digits_value_short, numerals_by_fold, parse_gives}
 use Rattle.clap.proofs.WalkLemmas.{both}
-use Rattle.zint_words.specs.Values.{is_whole_number}
+use Rattle.zint_words.specs.Numbers.{is_whole_number}
 
 digits : IsNumeralModel (λ ds. list_all is_ascii_digit ds ≡ true) (digits_value 10)
 digits = numerals_by_fold _ (search rules) (digits_value_after 10) (search rules)

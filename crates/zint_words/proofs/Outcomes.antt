@@ -3,7 +3,7 @@ use Rattle.std.proofs.Common.{◌≡◌, List, Bool, false, Option, Some, None, 
 use Rattle.std.specs.Option.{option_map_or}
 use Rattle.clap.specs.Words.{Text}
 use Rattle.zint_words.specs.CommandLine.{Values, is_refused, values_by}
-use Rattle.zint_words.specs.FaultText.{text_of}
+use Rattle.zint_words.specs.BrokenRule.{broken_text}
 use Rattle.zint_words.specs.Outcome.{IsRefusedBy, IsUnreadable, bad_option, outcome_by, outcome_of, settings, usage}
 use Rattle.zint_words.specs.Rules.{first_broken}
 use Rattle.zint_words.specs.Settings.{Request, request_by}
@@ -25,13 +25,13 @@ values_decide words v taken given =
     ap outcome_by given ∙ sym (ap (λ (b : Bool). if b then usage else outcome_by (values_by words)) taken)
 
 -- a broken rule is `bad_option` with its text
-pub broken_comes : (v : Values) (rule : Rule) (text : Text) → Some rule ≡ first_broken v → text ≡ text_of v rule → outcome_by v ≡ bad_option text
+pub broken_comes : (v : Values) (rule : Rule) (text : Text) → Some rule ≡ first_broken v → text ≡ broken_text v rule → outcome_by v ≡ bad_option text
 unfolding outcome_by
 broken_comes v rule text broken is_text =
-    ap (λ (o : Option Rule). option_map_or (λ r. bad_option (text_of v r)) o (settings (request_by v))) (sym broken) ∙ ap bad_option (sym is_text)
+    ap (λ (o : Option Rule). option_map_or (λ r. bad_option (broken_text v r)) o (settings (request_by v))) (sym broken) ∙ ap bad_option (sym is_text)
 
 -- where no rule is broken, the settings are what the values ask for
 pub settings_come : (v : Values) (request : Request) → None ≡ first_broken v → request ≡ request_by v → outcome_by v ≡ settings request
 unfolding outcome_by
 settings_come v request kept is_request =
-    ap (λ (o : Option Rule). option_map_or (λ r. bad_option (text_of v r)) o (settings (request_by v))) (sym kept) ∙ ap settings (sym is_request)
+    ap (λ (o : Option Rule). option_map_or (λ r. bad_option (broken_text v r)) o (settings (request_by v))) (sym kept) ∙ ap settings (sym is_request)

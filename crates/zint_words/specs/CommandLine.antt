@@ -1,66 +1,80 @@
 -- The command as its words are read: its options in the order of their table, each set at most once
 -- to one text, or a flag, and nothing else.
-use Rattle.std.specs.Prelude.{ℕ, Bool, not, List, [], ◌∷◌, map, codes, Option, Some, None, if◌then◌else◌, option_and_then}
+use Rattle.std.specs.Prelude.{ℕ, Bool, false, not, List, [], map, codes, Option, Some, None, if◌then◌else◌, option_and_then, option_map, slice_index_or}
 use Rattle.std.specs.Str.{bytes_eq}
+use denote.Enum.Declared.{tag_of}
 use Rattle.clap.specs.Words.{App, Row, Rule, Text, fault_of, first_of, matches_of, new_rule}
 use Rattle.clap.specs.Simple.{new_shape}
 use Rattle.clap.specs.Walk.{is_empty}
 use Rattle.clap.specs.declared.builder.action.ArgAction.{ArgAction}
 use Rattle.clap.specs.declared.builder.action.ArgAction.TheVariants.{Set, SetTrue}
+use Rattle.zint_words.specs.contracts.options.OptionName.{the_type}
 use Rattle.zint_words.specs.declared.options.OptionName.{OptionName}
-use Rattle.zint_words.specs.declared.options.OptionName.TheVariants.{Barcode, Data, Input, Output, Direct, Filetype, Esc, Binary, Secure, Vers}
-use Rattle.zint_words.specs.declared.options.ValueKind.{ValueKind}
-use Rattle.zint_words.specs.declared.options.ValueKind.TheVariants.{Flag, Text as AnyText, SymbolNumber, FileName, FormName, Number, Version}
+use Rattle.zint_words.specs.declared.options.OptionName.TheVariants.{Barcode}
+use Rattle.zint_words.specs.declared.options.Takes.{Takes}
+use Rattle.zint_words.specs.declared.options.Takes.TheVariants.{Flag}
+use Rattle.zint_words.specs.declared.options.TheConstants.{OPTIONS, OPTION_NAMES}
+use Rattle.zint_words.specs.declared.symbology.Symbology.{Symbology}
+
+pub record OptionRow : Type 0 where
+  pub option : OptionName
+  pub long : Text
+  pub short : Option ℕ
+  pub takes : Takes
+  pub suited : Option (List Symbology)
+  pub is_for_gs1 : Bool
+  pub is_built : Bool
+
+-- the rows of the table, one for each option in the order of their variants
+abbrev pub option_rows : List OptionRow
+option_rows = map (λ row. record {
+  option = row.0;
+  long = row.1.now;
+  short = row.2;
+  takes = row.3;
+  suited = option_map (λ s. s.now) row.4;
+  is_for_gs1 = row.5;
+  is_built = row.6;
+}) OPTIONS.now
+
+unfoldable pub option_row : OptionName → OptionRow
+option_row n = slice_index_or option_rows (tag_of the_type n) (record {
+  option = Barcode;
+  long = [];
+  short = None;
+  takes = Flag;
+  suited = None;
+  is_for_gs1 = false;
+  is_built = false;
+})
 
 -- the options, in the order of their table
-abbrev pub options : List OptionName
-options = Barcode ∷ Data ∷ Input ∷ Output ∷ Direct ∷ Filetype ∷ Esc ∷ Binary ∷ Secure ∷ Vers ∷ []
+abbrev pub option_names : List OptionName
+option_names = OPTION_NAMES.now
 
 -- the name after `--`
-abbrev pub long_of : OptionName → Text
-long_of Barcode = codes "barcode"
-long_of Data = codes "data"
-long_of Input = codes "input"
-long_of Output = codes "output"
-long_of Direct = codes "direct"
-long_of Filetype = codes "filetype"
-long_of Esc = codes "esc"
-long_of Binary = codes "binary"
-long_of Secure = codes "secure"
-long_of Vers = codes "vers"
+unfoldable pub long_name : OptionName → Text
+long_name n = (option_row n).long
 
--- the letter after `-`: b, d, i and o
-abbrev pub short_of : OptionName → Option ℕ
-short_of Barcode = Some 98
-short_of Data = Some 100
-short_of Input = Some 105
-short_of Output = Some 111
-short_of _ = None
+-- the letter after `-`
+unfoldable pub short_name : OptionName → Option ℕ
+short_name n = (option_row n).short
 
 -- what the option takes
-abbrev pub value_kind_of : OptionName → ValueKind
-value_kind_of Barcode = SymbolNumber
-value_kind_of Data = AnyText
-value_kind_of Input = AnyText
-value_kind_of Output = FileName
-value_kind_of Direct = Flag
-value_kind_of Filetype = FormName
-value_kind_of Esc = Flag
-value_kind_of Binary = Flag
-value_kind_of Secure = Number 1 4
-value_kind_of Vers = Version
+unfoldable pub taken_by : OptionName → Takes
+taken_by n = (option_row n).takes
 
 -- a flag is used alone, every other option is set to one text
-abbrev pub action_for : ValueKind → ArgAction
+abbrev pub action_for : Takes → ArgAction
 action_for Flag = SetTrue
 action_for _ = Set
 
 -- the option as `clap` reads it, found by its names alone
-abbrev pub rule_for : OptionName → Rule
-rule_for n = record (new_rule (long_of n)) {
-  long = Some (long_of n);
-  short = short_of n;
-  action = Some (action_for (value_kind_of n));
+unfoldable pub rule_for : OptionName → Rule
+rule_for n = record (new_rule (long_name n)) {
+  long = Some (long_name n);
+  short = short_name n;
+  action = Some (action_for (taken_by n));
 }
 
 abbrev pub app_with : List Rule → App
@@ -68,7 +82,7 @@ app_with rules = record { top = record (new_shape (codes "zint")) { rules = rule
 
 -- the command
 unfoldable pub zint : App
-zint = app_with (map rule_for options)
+zint = app_with (map rule_for option_names)
 
 -- the words, of which the first is the program's name, are none that the command takes
 unfoldable pub is_refused : List Text → Bool
@@ -79,13 +93,13 @@ abbrev pub Values : Type 0
 Values = OptionName → Option Text
 
 -- the text of an option, by the first text that was found for it; a flag that was not used has `false`
-abbrev pub given_as : ValueKind → Option Text → Option Text
+abbrev pub given_as : Takes → Option Text → Option Text
 given_as Flag found = option_and_then (λ t. if bytes_eq t (codes "true") then Some t else None) found
 given_as _ found = found
 
 -- the values by the rows that the words made
 unfoldable pub values_in : List Row → Values
-values_in rows n = given_as (value_kind_of n) (first_of (long_of n) rows)
+values_in rows n = given_as (taken_by n) (first_of (long_name n) rows)
 
 -- the values that the words give, where the command takes them
 unfoldable pub values_by : List Text → Values

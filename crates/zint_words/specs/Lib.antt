@@ -1,7 +1,11 @@
+pub mod BrokenRule
 pub mod CommandLine
-pub mod FaultText
+pub mod DrawingOptions
+pub mod Forms
 pub mod GivenValues
+pub mod Numbers
+pub mod Options
 pub mod Outcome
 pub mod Rules
 pub mod Settings
-pub mod Values
+pub mod Symbologies

@@ -3,7 +3,7 @@ use Rattle.std.specs.Prelude.{◌≡◌, Bool, true, List, if◌then◌else◌, 
 use Rattle.std.specs.Option.{option_map_or}
 use Rattle.clap.specs.Words.{Text}
 use Rattle.zint_words.specs.CommandLine.{Values, is_refused, values_by}
-use Rattle.zint_words.specs.FaultText.{text_of}
+use Rattle.zint_words.specs.BrokenRule.{broken_text}
 use Rattle.zint_words.specs.Rules.{first_broken}
 use Rattle.zint_words.specs.Settings.{Request, request_by}
 use Rattle.zint_words.specs.declared.refusal.Refusal.{Refusal}
@@ -16,7 +16,7 @@ pub data Outcome : Type 0 where
 
 -- by the values of the options: the first broken rule, and else the settings
 unfoldable pub outcome_by : Values → Outcome
-outcome_by v = option_map_or (λ rule. bad_option (text_of v rule)) (first_broken v) (settings (request_by v))
+outcome_by v = option_map_or (λ rule. bad_option (broken_text v rule)) (first_broken v) (settings (request_by v))
 
 -- by the words, of which the first is the program's name
 unfoldable pub outcome_of : List Text → Outcome

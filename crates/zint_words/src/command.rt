@@ -3,7 +3,7 @@ ghost use Rattle.std.specs.Prelude.{◌≡◌, false, IfOk};
 ghost use Rattle.clap.specs.Words.{app_of, rule_of};
 ghost use Rattle.zint_words.specs.CommandLine.{rule_for, zint};
 
-use crate::options::{OPTIONS, OptionName};
+use crate::options::{OPTION_NAMES, OptionName};
 use clap::{Arg, Command};
 use std::alloc::{AllocError, Global};
 
@@ -12,20 +12,22 @@ pub fn command<'a>(alloc: Global) -> Result<Command<'a>, AllocError>
     ensures { IfOk result (λ c. app_of c ≡ zint) }
 {
     let mut command = Command::new(alloc, "zint");
-    for option in OPTIONS.iter() {
+    for option in OPTION_NAMES.iter() {
         command = command.arg(argument(alloc, *option))?;
     }
     Ok(command)
 }
 
+#[tactic(auto, unfolding(crate::specs::CommandLine::rule_for))]
 fn argument<'a>(alloc: Global, option: OptionName) -> Arg<'a>
     ensures rule { rule_of result ≡ rule_for option }
     ensures local { result.global ≡ false }
 {
-    let row = option.row();
-    let long: &'a str = row.long;
-    let plain = Arg::new(alloc, long).long(long).action(row.kind.action());
-    match row.short {
+    let long: &'a str = option.long();
+    let plain = Arg::new(alloc, long)
+        .long(long)
+        .action(option.takes().action());
+    match option.short() {
         Some(letter) => plain.short(letter),
         None => plain,
     }

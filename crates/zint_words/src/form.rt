@@ -1,7 +1,8 @@
 //! The forms of the output, by their names and by the endings of file names.
 ghost use Rattle.std.specs.Prelude.{◌≡◌};
-ghost use Rattle.zint_words.specs.Values.{form_by_ending, form_in, has_left_out_ending, is_built_form, name_of};
+ghost use Rattle.zint_words.specs.Forms.{form_by_ending, form_ending, form_in, form_name, has_left_out_ending, is_asked_by, is_built_form};
 
+use crate::built::is_built;
 use crate::values::{ends_in, ends_in_any};
 
 /// The form in which a symbol is written.
@@ -19,34 +20,72 @@ pub enum Form {
     Report,
 }
 
-static FORMS: [Form; 5] = [Form::Svg, Form::Eps, Form::Bmp, Form::Grid, Form::Report];
+// The table: a row for each form, in the order of the variants. It has the variant, the name that `--filetype` takes, the
+// ending of the names of files that are of this form, and whether this program writes it.
+macro_rules! forms {
+    ($column:ident) => {
+        &[
+            $column!(Svg, "svg", Some(".svg"), unbuilt),
+            $column!(Eps, "eps", Some(".eps"), unbuilt),
+            $column!(Bmp, "bmp", Some(".bmp"), unbuilt),
+            $column!(Grid, "grid", None, built),
+            $column!(Report, "report", None, built),
+        ]
+    };
+}
 
-static LEFT_OUT: [&str; 6] = [".png", ".gif", ".pcx", ".tif", ".emf", ".txt"];
+macro_rules! variant {
+    ($form:ident, $name:literal, $ending:expr, $built:ident) => {
+        Form::$form
+    };
+}
+
+macro_rules! row {
+    ($form:ident, $name:literal, $ending:expr, $built:ident) => {
+        (Form::$form, $name, $ending, is_built!($built))
+    };
+}
+
+/// The forms.
+pub const FORMS: &[Form] = forms!(variant);
+
+/// The rows of the forms, in the order of their variants.
+pub const FORM_ROWS: &[(Form, &str, Option<&str>, bool)] = forms!(row);
+
+/// The endings of the names of files of forms that are left out.
+pub const LEFT_OUT: [&str; 6] = [".png", ".gif", ".pcx", ".tif", ".emf", ".txt"];
 
 impl Form {
     /// The name that `--filetype` takes.
+    #[tactic(auto, unfolding(crate::specs::Forms::form_name, crate::specs::Forms::form_row))]
     pub fn name(self) -> &'static str
-        ensures { result.now ≡ name_of self }
+        ensures { result.now ≡ form_name self }
     {
-        match self {
-            Form::Svg => "svg",
-            Form::Eps => "eps",
-            Form::Bmp => "bmp",
-            Form::Grid => "grid",
-            Form::Report => "report",
-        }
+        FORM_ROWS[self as usize].1
     }
 
     /// Whether this program writes the form.
+    #[tactic(auto, unfolding(crate::specs::Forms::is_built_form, crate::specs::Forms::form_row))]
     pub fn is_built(self) -> bool
         ensures { result ≡ is_built_form self }
     {
-        matches!(self, Form::Grid | Form::Report)
+        FORM_ROWS[self as usize].3
+    }
+
+    // Whether the file's name ends as files of this form do.
+    #[tactic(auto, unfolding(crate::specs::Forms::is_asked_by, crate::specs::Forms::form_row))]
+    fn is_asked_by(self, name: &str) -> bool
+        ensures { result ≡ is_asked_by self name.now }
+    {
+        match FORM_ROWS[self as usize].2 {
+            Some(ending) => ends_in(name, ending),
+            None => false,
+        }
     }
 }
 
 /// The form with this name.
-#[tactic(auto, unfolding(crate::specs::Values::form_in))]
+#[tactic(auto, unfolding(crate::specs::Forms::form_in))]
 pub fn form_in(text: &str) -> Option<Form>
     ensures { result ≡ form_in text.now }
 {
@@ -54,23 +93,21 @@ pub fn form_in(text: &str) -> Option<Form>
 }
 
 /// The form that a file's name asks for by its ending: the grid where it asks for no other.
-#[tactic(auto, unfolding(crate::specs::Values::form_by_ending))]
+#[tactic(auto, unfolding(crate::specs::Forms::form_by_ending))]
 pub fn form_by_ending(name: &str) -> Form
     ensures { result ≡ form_by_ending name.now }
 {
-    if ends_in(name, ".svg") {
-        Form::Svg
-    } else if ends_in(name, ".eps") {
-        Form::Eps
-    } else if ends_in(name, ".bmp") {
-        Form::Bmp
-    } else {
-        Form::Grid
-    }
+    form_ending(name).unwrap_or(Form::Grid)
+}
+
+fn form_ending(name: &str) -> Option<Form>
+    ensures { result ≡ form_ending name.now }
+{
+    FORMS.iter().copied().find(|form| form.is_asked_by(name))
 }
 
 /// Whether the name ends as files of a form do that is left out.
-#[tactic(auto, unfolding(crate::specs::Values::has_left_out_ending))]
+#[tactic(auto, unfolding(crate::specs::Forms::has_left_out_ending))]
 pub fn has_left_out_ending(name: &str) -> bool
     ensures { result ≡ has_left_out_ending name.now }
 {

@@ -1,8 +1,11 @@
-//! The words of the command line: from the list that the system gives to the settings of a drawing, or to the rule that they break.
+//! The words of the command line: from the list that the system gives to what they ask for, or to the rule that they
+//! break.
 #![tactic(auto)]
 
+mod broken_rule;
+mod built;
 mod command;
-mod fault_text;
+mod drawing_options;
 mod form;
 mod given;
 mod options;
@@ -10,13 +13,14 @@ mod reading;
 mod refusal;
 mod rules;
 mod settings;
-mod symbol;
+mod symbology;
 #[cfg(test)]
 mod tests;
 mod values;
 
+pub use drawing_options::{DrawingOptions, Gs1Brackets};
 pub use form::Form;
 pub use reading::settings_of;
 pub use refusal::Refusal;
-pub use settings::{Origin, Settings};
-pub use symbol::Symbol;
+pub use settings::{DrawingSettings, Origin, Settings};
+pub use symbology::Symbology;

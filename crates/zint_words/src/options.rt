@@ -1,10 +1,13 @@
-//! The table of the options: a row for each, with its names and what it takes.
+//! The table of the options: a row for each, with its names, what it takes, and the symbologies that it is for.
 ghost use Rattle.std.specs.Prelude.{◌≡◌};
-ghost use Rattle.zint_words.specs.CommandLine.{action_for, long_of, short_of, value_kind_of};
+ghost use Rattle.zint_words.specs.CommandLine.{action_for, long_name, short_name, taken_by};
+ghost use Rattle.zint_words.specs.Options.{has_symbology, is_built_option, is_for_gs1, suits};
 
+use crate::built::is_built;
+use crate::symbology::Symbology;
 use clap::ArgAction;
 
-/// The options of the command, in the order of their table.
+/// The options of the command.
 #[derive(Clone, Copy, Debug, PartialEq, Eq)]
 pub enum OptionName {
     Barcode,
@@ -15,103 +18,172 @@ pub enum OptionName {
     Filetype,
     Esc,
     Binary,
+    Gs1,
+    Gs1parens,
+    Eci,
     Secure,
     Vers,
+    Scale,
 }
-
-/// Every option, in the order in which values are tested.
-pub static OPTIONS: [OptionName; 10] = [
-    OptionName::Barcode,
-    OptionName::Data,
-    OptionName::Input,
-    OptionName::Output,
-    OptionName::Direct,
-    OptionName::Filetype,
-    OptionName::Esc,
-    OptionName::Binary,
-    OptionName::Secure,
-    OptionName::Vers,
-];
 
 /// What an option takes.
 #[derive(Clone, Copy, Debug, PartialEq, Eq)]
-pub enum ValueKind {
+pub enum Takes {
     /// Nothing: the option is on where it is given.
     Flag,
     /// Any text.
     Text,
-    /// The number of a symbol.
-    SymbolNumber,
+    /// The number of a symbology.
+    SymbologyNumber,
     /// The name of a file to write, whose ending may name a form.
     FileName,
     /// The name of a form.
     FormName,
     /// A whole number from the first to the second.
     Number(u32, u32),
-    /// A whole number from 1 to the number of versions that the symbol has.
+    /// A whole number from 1 to the greatest version of the symbology.
     Version,
+    /// The ECI number of a character set.
+    CharacterSet,
 }
 
-impl ValueKind {
-    /// How `clap` treats an option of this kind: as a flag, or as set once to one value.
+// The table: a row for each option, in the order of the variants. It has the variant, the name after `--`, the letter
+// after `-`, what the option takes, the symbologies that it is for, whether it is for GS1 data too, and whether this program
+// acts on it.
+macro_rules! option_table {
+    ($column:ident) => {
+        &[
+            $column!(Barcode, "barcode", Some('b'), Takes::SymbologyNumber, every, any_data, built),
+            $column!(Data, "data", Some('d'), Takes::Text, every, any_data, built),
+            $column!(Input, "input", Some('i'), Takes::Text, every, any_data, built),
+            $column!(Output, "output", Some('o'), Takes::FileName, every, any_data, built),
+            $column!(Direct, "direct", None, Takes::Flag, every, any_data, built),
+            $column!(Filetype, "filetype", None, Takes::FormName, every, any_data, built),
+            $column!(Esc, "esc", None, Takes::Flag, every, any_data, built),
+            $column!(Binary, "binary", None, Takes::Flag, every, no_gs1, built),
+            $column!(Gs1, "gs1", None, Takes::Flag, [Gs1Code128 Aztec], any_data, built),
+            $column!(Gs1parens, "gs1parens", None, Takes::Flag, [Gs1Code128 Aztec], any_data, built),
+            $column!(Eci, "eci", None, Takes::CharacterSet, [Aztec], no_gs1, built),
+            $column!(Secure, "secure", None, Takes::Number(1, 4), [Aztec], any_data, built),
+            $column!(Vers, "vers", None, Takes::Version, [Code39 Aztec], any_data, built),
+            $column!(Scale, "scale", None, Takes::Number(1, 20), every, any_data, unbuilt),
+        ]
+    };
+}
+
+pub(crate) use option_table;
+
+macro_rules! name {
+    ($option:ident, $($rest:tt)*) => {
+        OptionName::$option
+    };
+}
+
+macro_rules! row {
+    ($option:ident, $long:literal, $short:expr, $takes:expr, $suited:tt, $data:ident, $built:ident) => {
+        (
+            OptionName::$option,
+            $long,
+            $short,
+            $takes,
+            suited!($suited),
+            is_for_gs1!($data),
+            is_built!($built),
+        )
+    };
+}
+
+macro_rules! suited {
+    (every) => { None };
+    ([$($symbology:ident)+]) => { Some(&[$(Symbology::$symbology),+]) };
+}
+
+macro_rules! is_for_gs1 {
+    (any_data) => { true };
+    (no_gs1) => { false };
+}
+
+/// The options, in the order in which their rules are tested.
+pub const OPTION_NAMES: &[OptionName] = option_table!(name);
+
+/// The rows of the options, in the order of their variants.
+pub const OPTIONS: &[(
+    OptionName,
+    &str,
+    Option<char>,
+    Takes,
+    Option<&[Symbology]>,
+    bool,
+    bool,
+)] = option_table!(row);
+
+impl Takes {
+    /// How `clap` treats an option that takes this: as a flag, or as set once to one value.
     pub fn action(self) -> ArgAction
         ensures { result ≡ action_for self }
     {
         match self {
-            ValueKind::Flag => ArgAction::SetTrue,
+            Takes::Flag => ArgAction::SetTrue,
             _ => ArgAction::Set,
         }
     }
 }
 
-/// A row of the table: the long name, the letter of the short name, and what the option takes.
-#[derive(Clone, Copy, Debug)]
-pub struct OptionRow {
-    pub long: &'static str,
-    pub short: Option<char>,
-    pub kind: ValueKind,
-}
-
 impl OptionName {
-    /// The option's row of the table.
-    pub fn row(self) -> OptionRow
-        ensures long { result.long.now ≡ long_of self }
-        ensures short { result.short ≡ short_of self }
-        ensures kind { result.kind ≡ value_kind_of self }
+    /// The name after `--`.
+    #[tactic(auto, unfolding(crate::specs::CommandLine::long_name, crate::specs::CommandLine::option_row))]
+    pub fn long(self) -> &'static str
+        ensures { result.now ≡ long_name self }
     {
-        match self {
-            OptionName::Barcode => both("barcode", 'b', ValueKind::SymbolNumber),
-            OptionName::Data => both("data", 'd', ValueKind::Text),
-            OptionName::Input => both("input", 'i', ValueKind::Text),
-            OptionName::Output => both("output", 'o', ValueKind::FileName),
-            OptionName::Direct => long("direct", ValueKind::Flag),
-            OptionName::Filetype => long("filetype", ValueKind::FormName),
-            OptionName::Esc => long("esc", ValueKind::Flag),
-            OptionName::Binary => long("binary", ValueKind::Flag),
-            OptionName::Secure => long("secure", ValueKind::Number(1, 4)),
-            OptionName::Vers => long("vers", ValueKind::Version),
+        OPTIONS[self as usize].1
+    }
+
+    /// The letter after `-`, where there is one.
+    #[tactic(auto, unfolding(crate::specs::CommandLine::short_name, crate::specs::CommandLine::option_row))]
+    pub fn short(self) -> Option<char>
+        ensures { result ≡ short_name self }
+    {
+        OPTIONS[self as usize].2
+    }
+
+    /// What the option takes.
+    #[tactic(auto, unfolding(crate::specs::CommandLine::taken_by, crate::specs::CommandLine::option_row))]
+    pub fn takes(self) -> Takes
+        ensures { result ≡ taken_by self }
+    {
+        OPTIONS[self as usize].3
+    }
+
+    /// Whether the option is for the symbology.
+    #[tactic(auto, unfolding(crate::specs::Options::suits, crate::specs::CommandLine::option_row))]
+    pub fn suits(self, symbology: Symbology) -> bool
+        ensures { result ≡ suits self symbology }
+    {
+        match OPTIONS[self as usize].4 {
+            Some(suited) => has_symbology(suited, symbology),
+            None => true,
         }
     }
-}
 
-// An option with a long and a short name.
-fn both(long: &'static str, short: char, kind: ValueKind) -> OptionRow
-    ensures { result ≡ record { long = long.entry; short = Some short; kind = kind } }
-{
-    OptionRow {
-        long,
-        short: Some(short),
-        kind,
+    /// Whether the option is for GS1 data, as for all other data.
+    #[tactic(auto, unfolding(crate::specs::Options::is_for_gs1, crate::specs::CommandLine::option_row))]
+    pub fn is_for_gs1(self) -> bool
+        ensures { result ≡ is_for_gs1 self }
+    {
+        OPTIONS[self as usize].5
+    }
+
+    /// Whether this program acts on the option.
+    #[tactic(auto, unfolding(crate::specs::Options::is_built_option, crate::specs::CommandLine::option_row))]
+    pub fn is_built(self) -> bool
+        ensures { result ≡ is_built_option self }
+    {
+        OPTIONS[self as usize].6
     }
 }
 
-// An option with a long name alone.
-fn long(long: &'static str, kind: ValueKind) -> OptionRow
-    ensures { result ≡ record { long = long.entry; short = None; kind = kind } }
+fn has_symbology(symbologies: &[Symbology], symbology: Symbology) -> bool
+    ensures { result ≡ has_symbology symbologies.now symbology }
 {
-    OptionRow {
-        long,
-        short: None,
-        kind,
-    }
+    symbologies.iter().any(|other| *other == symbology)
 }

@@ -1,29 +1,28 @@
 //! From the words to the settings.
-ghost use Rattle.std.specs.Prelude.{◌≡◌, ◌≤◌, IfOk, IfErr, IfSome, map, string_bytes, false, true};
+ghost use Rattle.std.specs.Prelude.{◌≡◌, IfOk, IfErr, None, map, string_bytes, false, true};
 ghost use Rattle.zint_words.specs.CommandLine.{is_refused, values_by};
 ghost use Rattle.zint_words.specs.GivenValues.{values_of};
 ghost use Rattle.zint_words.specs.Outcome.{IsRefusedBy, IsUnreadable, outcome_by, outcome_of, settings};
-ghost use Rattle.zint_words.specs.Settings.{level_of, origin_of, origin_text, request_by, request_of, share_of, version_of};
-ghost use Rattle.zint_words.specs.Values.{is_built_form, is_built_symbol};
+ghost use Rattle.zint_words.specs.Rules.{first_broken};
+ghost use Rattle.zint_words.specs.Settings.{drawing_by, drawing_in, origin_in, origin_of, request_in};
 
+use crate::broken_rule::broken_text;
 use crate::command::command;
-use crate::fault_text::text_of;
+use crate::drawing_options::drawing_options;
 use crate::given::Given;
 use crate::options::OptionName;
 use crate::refusal::Refusal;
-use crate::rules::{first_broken, form_of, symbol_of};
-use crate::settings::{Origin, Settings};
-use crate::values::number_in;
+use crate::rules::first_broken;
+use crate::settings::{DrawingSettings, Origin, Settings};
 use clap::error::ErrorKind;
 use std::alloc::Global;
 
 /// The settings that the words ask for. The first word is the program's name.
 ///
-/// `Refusal::Usage` comes where the command takes no such words, `Refusal::BadOption` with the first broken rule where a value, an
-/// exclusion or the want of a message stands against them, and `Refusal::NoMemory` only where memory ran out.
+/// `Refusal::Usage` comes where the command takes no such words, `Refusal::BadOption` where they break a rule, with the text
+/// of the first one that is broken, and `Refusal::NoMemory` only where memory ran out.
 pub fn settings_of<'a>(alloc: Global, words: &'a [String]) -> Result<Settings<'a>, Refusal>
-    ensures settings { IfOk result (λ s. outcome_of (map string_bytes words.entry.now) ≡ settings (request_of s)) }
-    ensures built { IfOk result (λ s. (is_built_symbol s.symbol ≡ true) × (is_built_form s.form ≡ true)) }
+    ensures settings { IfOk result (λ s. outcome_of (map string_bytes words.entry.now) ≡ settings (request_in s)) }
     ensures refused { IfErr result (IsRefusedBy (outcome_of (map string_bytes words.entry.now))) }
 {
     match given_by(alloc, words) {
@@ -33,13 +32,12 @@ pub fn settings_of<'a>(alloc: Global, words: &'a [String]) -> Result<Settings<'a
 }
 
 fn settings_by<'a>(alloc: Global, given: &Given<'a>) -> Result<Settings<'a>, Refusal>
-    ensures settings { IfOk result (λ s. outcome_by (values_of given.now) ≡ settings (request_of s)) }
-    ensures built { IfOk result (λ s. (is_built_symbol s.symbol ≡ true) × (is_built_form s.form ≡ true)) }
+    ensures settings { IfOk result (λ s. outcome_by (values_of given.now) ≡ settings (request_in s)) }
     ensures refused { IfErr result (IsRefusedBy (outcome_by (values_of given.now))) }
 {
     match first_broken(given) {
-        Some(rule) => Err(Refusal::BadOption(text_of(alloc, given, rule)?)),
-        None => Ok(request_by(given)),
+        Some(rule) => Err(Refusal::BadOption(broken_text(alloc, given, rule)?)),
+        None => Ok(Settings::Drawing(drawing_by(given))),
     }
 }
 
@@ -58,62 +56,25 @@ fn given_by<'a>(alloc: Global, words: &'a [String]) -> Result<Given<'a>, Refusal
     }
 }
 
-#[tactic(auto, unfolding(crate::specs::Settings::request_by))]
-fn request_by<'a>(given: &Given<'a>) -> Settings<'a>
-    ensures { request_of result ≡ request_by (values_of given.now) }
+#[tactic(auto, unfolding(crate::specs::Settings::drawing_by))]
+fn drawing_by<'a>(given: &Given<'a>) -> DrawingSettings<'a>
+    requires { None ≡ first_broken (values_of given.now) }
+    ensures { drawing_in result ≡ drawing_by (values_of given.now) }
 {
-    Settings {
-        symbol: symbol_of(given),
+    let options = drawing_options(given);
+    DrawingSettings {
         origin: origin_of(given),
         output: given.value(OptionName::Output),
-        form: form_of(given),
-        escapes: given.has(OptionName::Esc),
-        binary: given.has(OptionName::Binary),
-        share: share_of(level_of(given)),
-        version: version_of(given),
+        options,
     }
 }
 
 #[tactic(auto, unfolding(crate::specs::Settings::origin_of))]
 fn origin_of<'a>(given: &Given<'a>) -> Origin<'a>
-    ensures { origin_text result ≡ origin_of (values_of given.now) }
+    ensures { origin_in result ≡ origin_of (values_of given.now) }
 {
     match given.value(OptionName::Data) {
         Some(text) => Origin::Text(text),
         None => Origin::Input(given.value(OptionName::Input).unwrap_or("")),
     }
-}
-
-#[tactic(auto, unfolding(crate::specs::Settings::level_of))]
-fn level_of(given: &Given<'_>) -> u32
-    ensures { result ≡ level_of (values_of given.now) }
-{
-    match given.value(OptionName::Secure) {
-        Some(text) => number_in(1, 4, text).unwrap_or(2),
-        None => 2,
-    }
-}
-
-fn share_of(level: u32) -> u32
-    ensures share { result ≡ share_of level }
-    ensures within { result ≤ 50 }
-{
-    match level {
-        1 => 10,
-        2 => 23,
-        3 => 36,
-        _ => 50,
-    }
-}
-
-#[tactic(auto, unfolding(crate::specs::Settings::version_of))]
-fn version_of(given: &Given<'_>) -> Option<u32>
-    ensures version { result ≡ version_of (values_of given.now) }
-    ensures within { IfSome result (λ v. (1 ≤ v) × (v ≤ 36)) }
-{
-    number_in(
-        1,
-        symbol_of(given).versions(),
-        given.value(OptionName::Vers)?,
-    )
 }

@@ -1,14 +1,13 @@
 //! The rules on the options, in the order in which they are tested.
-ghost use Rattle.std.specs.Prelude.{◌≡◌};
+ghost use Rattle.std.specs.Prelude.{◌≡◌, find};
 ghost use Rattle.zint_words.specs.GivenValues.{values_of};
-ghost use Rattle.zint_words.specs.Rules.{breaks, first_broken, is_good_text, is_good_value, suits};
-ghost use Rattle.zint_words.specs.Settings.{form_of, symbol_of};
+ghost use Rattle.zint_words.specs.Rules.{breaks, excluded_by, first_broken, is_built, is_good_text, is_good_value};
 
-use crate::form::{Form, form_by_ending, form_in, has_left_out_ending};
+use crate::form::{form_in, has_left_out_ending};
 use crate::given::Given;
-use crate::options::{OptionName, ValueKind};
-use crate::symbol::{Symbol, symbol_in};
-use crate::values::number_in;
+use crate::options::{OptionName, Takes, option_table};
+use crate::symbology::symbology_in;
+use crate::values::{character_set_in, whole_number_in};
 
 /// A rule on the options.
 #[derive(Clone, Copy, Debug)]
@@ -17,37 +16,61 @@ pub enum Rule {
     Value(OptionName),
     /// The two options are not both given.
     Apart(OptionName, OptionName),
-    /// The option is given only with a symbol that it suits.
-    Suits(OptionName),
+    /// The option is given only with a symbology and with data that it is for.
+    Excluded(OptionName),
     /// There is a message.
     Message,
-    /// The symbol is one that this program draws.
-    SymbolBuilt,
-    /// The form is one that this program writes.
-    FormBuilt,
+    /// This program does what the option asks for.
+    Built(OptionName),
 }
 
-static RULES: [Rule; 12] = [
-    Rule::Value(OptionName::Barcode),
-    Rule::Value(OptionName::Output),
-    Rule::Value(OptionName::Filetype),
-    Rule::Value(OptionName::Secure),
-    Rule::Value(OptionName::Vers),
+/// The pairs of options that are not given together, in the order in which they are tested.
+pub const PAIRS: &[Rule] = &[
     Rule::Apart(OptionName::Data, OptionName::Input),
     Rule::Apart(OptionName::Direct, OptionName::Output),
-    Rule::Suits(OptionName::Secure),
-    Rule::Suits(OptionName::Vers),
-    Rule::Message,
-    Rule::SymbolBuilt,
-    Rule::FormBuilt,
 ];
+
+macro_rules! value {
+    ($option:ident, $($rest:tt)*) => {
+        Rule::Value(OptionName::$option)
+    };
+}
+
+macro_rules! excluded {
+    ($option:ident, $($rest:tt)*) => {
+        Rule::Excluded(OptionName::$option)
+    };
+}
+
+macro_rules! built {
+    ($option:ident, $($rest:tt)*) => {
+        Rule::Built(OptionName::$option)
+    };
+}
+
+// The rules of each option, in the order of their table.
+const VALUES: &[Rule] = option_table!(value);
+
+const EXCLUDED: &[Rule] = option_table!(excluded);
+
+const BUILT: &[Rule] = option_table!(built);
 
 /// The first rule that the values break.
 #[tactic(auto, unfolding(crate::specs::Rules::first_broken))]
 pub fn first_broken(given: &Given<'_>) -> Option<Rule>
     ensures { result ≡ first_broken (values_of given.now) }
 {
-    RULES.iter().copied().find(|rule| breaks(given, *rule))
+    first_of(given, VALUES)
+        .or(first_of(given, PAIRS))
+        .or(first_of(given, EXCLUDED))
+        .or(first_of(given, &[Rule::Message]))
+        .or(first_of(given, BUILT))
+}
+
+fn first_of(given: &Given<'_>, rules: &[Rule]) -> Option<Rule>
+    ensures { result ≡ find (breaks (values_of given.now)) rules.now }
+{
+    rules.iter().copied().find(|rule| breaks(given, *rule))
 }
 
 #[tactic(auto, unfolding(crate::specs::Rules::breaks))]
@@ -57,10 +80,26 @@ fn breaks(given: &Given<'_>, rule: Rule) -> bool
     match rule {
         Rule::Value(option) => !is_good_value(given, option),
         Rule::Apart(first, second) => given.has(first) && given.has(second),
-        Rule::Suits(option) => given.has(option) && !suits(option, symbol_of(given)),
+        Rule::Excluded(option) => excluded_by(given, option).is_some(),
         Rule::Message => !given.has(OptionName::Data) && !given.has(OptionName::Input),
-        Rule::SymbolBuilt => !symbol_of(given).is_built(),
-        Rule::FormBuilt => !form_of(given).is_built(),
+        Rule::Built(option) => !is_built(given, option),
+    }
+}
+
+/// The option with which this one cannot be given: `-b` where it is not for the symbology, and what makes the data GS1 data
+/// where it is not for that.
+#[tactic(auto, unfolding(crate::specs::Rules::excluded_by))]
+pub fn excluded_by(given: &Given<'_>, option: OptionName) -> Option<OptionName>
+    ensures { result ≡ excluded_by (values_of given.now) option }
+{
+    if !given.has(option) {
+        None
+    } else if !option.suits(given.symbology()) {
+        Some(OptionName::Barcode)
+    } else if !option.is_for_gs1() {
+        given.gs1_source()
+    } else {
+        None
     }
 }
 
@@ -70,60 +109,37 @@ fn is_good_value(given: &Given<'_>, option: OptionName) -> bool
     ensures { result ≡ is_good_value (values_of given.now) option }
 {
     match given.value(option) {
-        Some(text) => is_good_text(given, option.row().kind, text),
+        Some(text) => is_good_text(given, option.takes(), text),
         None => true,
     }
 }
 
 #[tactic(auto, unfolding(crate::specs::Rules::is_good_text))]
-fn is_good_text(given: &Given<'_>, kind: ValueKind, text: &str) -> bool
-    ensures { result ≡ is_good_text (values_of given.now) kind text.now }
+fn is_good_text(given: &Given<'_>, takes: Takes, text: &str) -> bool
+    ensures { result ≡ is_good_text (values_of given.now) takes text.now }
 {
-    match kind {
-        ValueKind::Flag => true,
-        ValueKind::Text => true,
-        ValueKind::SymbolNumber => symbol_in(text).is_some(),
-        ValueKind::FileName => given.has(OptionName::Filetype) || !has_left_out_ending(text),
-        ValueKind::FormName => form_in(text).is_some(),
-        ValueKind::Number(low, high) => number_in(low, high, text).is_some(),
-        ValueKind::Version => number_in(1, symbol_of(given).versions(), text).is_some(),
+    match takes {
+        Takes::Flag => true,
+        Takes::Text => true,
+        Takes::SymbologyNumber => symbology_in(text).is_some(),
+        Takes::FileName => given.has(OptionName::Filetype) || !has_left_out_ending(text),
+        Takes::FormName => form_in(text).is_some(),
+        Takes::Number(low, high) => whole_number_in(low, high, text).is_some(),
+        Takes::Version => {
+            whole_number_in(1, given.symbology().greatest_version(), text).is_some()
+        }
+        Takes::CharacterSet => character_set_in(text).is_some(),
     }
 }
 
-// Whether an option that is for some symbols is for this one.
-#[tactic(auto, unfolding(crate::specs::Rules::suits))]
-fn suits(option: OptionName, symbol: Symbol) -> bool
-    ensures { result ≡ suits option symbol }
+// The symbology and the form are to be built whether they are named or not, every other option where it is given.
+#[tactic(auto, unfolding(crate::specs::Rules::is_built))]
+fn is_built(given: &Given<'_>, option: OptionName) -> bool
+    ensures { result ≡ is_built (values_of given.now) option }
 {
     match option {
-        OptionName::Secure => matches!(symbol, Symbol::Aztec),
-        OptionName::Vers => matches!(symbol, Symbol::Code39 | Symbol::Aztec),
-        _ => true,
-    }
-}
-
-/// The symbol that the values name, and Code 128 where they name none.
-#[tactic(auto, unfolding(crate::specs::Settings::symbol_of))]
-pub fn symbol_of(given: &Given<'_>) -> Symbol
-    ensures { result ≡ symbol_of (values_of given.now) }
-{
-    match given.value(OptionName::Barcode) {
-        Some(text) => symbol_in(text).unwrap_or(Symbol::Code128),
-        None => Symbol::Code128,
-    }
-}
-
-/// The form that the values name, by `--filetype` or else by the ending of the file's name.
-#[tactic(auto, unfolding(crate::specs::Settings::form_of))]
-pub fn form_of(given: &Given<'_>) -> Form
-    ensures { result ≡ form_of (values_of given.now) }
-{
-    let by_ending = match given.value(OptionName::Output) {
-        Some(name) => form_by_ending(name),
-        None => Form::Grid,
-    };
-    match given.value(OptionName::Filetype) {
-        Some(text) => form_in(text).unwrap_or(by_ending),
-        None => by_ending,
+        OptionName::Barcode => given.symbology().is_built(),
+        OptionName::Filetype => given.form().is_built(),
+        _ => !given.has(option) || option.is_built(),
     }
 }

@@ -1,9 +1,10 @@
-//! The settings of a drawing, one for each option.
-ghost use Rattle.std.specs.Prelude.{◌≤◌};
-ghost use Rattle.std.specs.Option.{ForSome};
+//! The settings that the words give.
+ghost use Rattle.std.specs.Prelude.{◌≡◌, true};
+ghost use Rattle.zint_words.specs.DrawingOptions.{IsInRange};
+ghost use Rattle.zint_words.specs.Forms.{is_built_form};
+ghost use Rattle.zint_words.specs.Symbologies.{is_built_symbology};
 
-use crate::form::Form;
-use crate::symbol::Symbol;
+use crate::drawing_options::DrawingOptions;
 
 /// Where the message comes from.
 #[derive(Clone, Copy, Debug)]
@@ -14,25 +15,23 @@ pub enum Origin<'a> {
     Input(&'a str),
 }
 
-/// What the words ask for.
-#[derive(Debug, Drop)]
-pub struct Settings<'a> {
-    /// The symbol to draw (`--barcode`); Code 128 where none is named.
-    pub symbol: Symbol,
-    /// The message (`--data` or `--input`).
+/// What is asked of a drawing.
+#[derive(Clone, Copy, Debug)]
+pub struct DrawingSettings<'a> {
+    /// Where the message comes from (`--data` or `--input`).
     pub origin: Origin<'a>,
     /// The name of the file to write (`--output`); none is standard output, as with `--direct`.
     pub output: Option<&'a str>,
-    /// The form of the output (`--filetype`, or the ending of the file's name); the grid where none is named.
-    pub form: Form,
-    /// Whether the message is written with escapes (`--esc`).
-    pub escapes: bool,
-    /// Whether the message is bytes and no text (`--binary`).
-    pub binary: bool,
-    /// The share of check codewords in percent (`--secure`): 10, 23, 36 or 50.
-    pub share: u32,
-    /// The version of the symbol (`--vers`): for Aztec 1 to 4 are the compact sizes and 5 to 36 the full ones.
-    pub version: Option<u32>,
-    pub ghost share_in_range: { share ≤ 50 },
-    pub ghost version_in_range: { ForSome version (λ v. (1 ≤ v) × (v ≤ 36)) },
+    /// What is drawn and how.
+    pub options: DrawingOptions,
+    pub ghost symbology_built: { is_built_symbology options.symbology ≡ true },
+    pub ghost form_built: { is_built_form options.form ≡ true },
+    pub ghost in_range: { IsInRange options },
+}
+
+/// What the words ask for.
+#[derive(Clone, Copy, Debug)]
+pub enum Settings<'a> {
+    /// A symbol is drawn.
+    Drawing(DrawingSettings<'a>),
 }

@@ -3,10 +3,14 @@ ghost use Rattle.std.specs.Prelude.{◌≡◌, ◌≤◌, IfSome, Some, true};
 ghost use Rattle.std.specs.Char.{is_ascii_digit};
 ghost use Rattle.std.specs.List.{list_all, list_any};
 ghost use Rattle.std.specs.Str.Parse.{digits_value};
-ghost use Rattle.zint_words.specs.Values.{ends_in, is_whole_number, number_in, whole_number};
+ghost use Rattle.zint_words.specs.Forms.{ends_in};
+ghost use Rattle.zint_words.specs.Numbers.{character_set_in, is_character_set, is_whole_number, whole_number, whole_number_in};
+
+/// The ECI numbers of the character sets that texts are encoded in.
+pub const CHARACTER_SETS: [u32; 10] = [3, 7, 11, 17, 22, 23, 25, 26, 27, 899];
 
 /// The number that the text writes, where it is 1 to 10 decimal digits; leading zeros are allowed.
-#[tactic(auto, unfolding(crate::specs::Values::whole_number))]
+#[tactic(auto, unfolding(crate::specs::Numbers::whole_number))]
 pub fn whole_number(text: &str) -> Option<u64>
     ensures { result ≡ whole_number text.now }
 {
@@ -38,9 +42,9 @@ fn are_digits(bytes: &[u8]) -> bool
 }
 
 /// The whole number that the text writes, where it lies from `low` to `high`.
-#[tactic(auto, unfolding(crate::specs::Values::number_in))]
-pub fn number_in(low: u32, high: u32, text: &str) -> Option<u32>
-    ensures value { result ≡ number_in low high text.now }
+#[tactic(auto, unfolding(crate::specs::Numbers::whole_number_in))]
+pub fn whole_number_in(low: u32, high: u32, text: &str) -> Option<u32>
+    ensures value { result ≡ whole_number_in low high text.now }
     ensures within { IfSome result (λ n. (low ≤ n) × (n ≤ high)) }
 {
     let number = whole_number(text)?;
@@ -51,8 +55,29 @@ pub fn number_in(low: u32, high: u32, text: &str) -> Option<u32>
     }
 }
 
+/// The ECI number of a character set that the text writes.
+#[tactic(auto, unfolding(crate::specs::Numbers::character_set_in))]
+pub fn character_set_in(text: &str) -> Option<u32>
+    ensures value { result ≡ character_set_in text.now }
+    ensures known { IfSome result (λ n. is_character_set n ≡ true) }
+{
+    let number = whole_number_in(0, 999_999, text)?;
+    if is_character_set(number) {
+        Some(number)
+    } else {
+        None
+    }
+}
+
+#[tactic(auto, unfolding(crate::specs::Numbers::is_character_set))]
+fn is_character_set(number: u32) -> bool
+    ensures { result ≡ is_character_set number }
+{
+    CHARACTER_SETS.iter().any(|set| *set == number)
+}
+
 /// Whether the name ends in the text.
-#[tactic(auto, unfolding(crate::specs::Values::ends_in))]
+#[tactic(auto, unfolding(crate::specs::Forms::ends_in))]
 pub fn ends_in(name: &str, ending: &str) -> bool
     ensures { result ≡ ends_in ending.now name.now }
 {

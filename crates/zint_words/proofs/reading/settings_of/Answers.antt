@@ -1,12 +1,12 @@
 use Rattle.std.proofs.Common.{◌≡◌, subst, IfOk, IfErr}
 use Rattle.zint_words.specs.Outcome.{IsRefusedBy, Outcome, settings}
-use Rattle.zint_words.specs.Settings.{request_of}
+use Rattle.zint_words.specs.Settings.{request_in}
 use Rattle.zint_words.proofs.Outcomes.{unreadable_comes, values_decide}
 use Rattle.zint_words.proofs.reading.settings_of.Goals as goal
 
 pub returns-in-Ok-clause-settings : goal.returns-in-Ok-clause-settings
 returns-in-Ok-clause-settings c =
-    subst (λ (o : Outcome). IfOk c.settings_by.result (λ s. o ≡ settings (request_of s)))
+    subst (λ (o : Outcome). IfOk c.settings_by.result (λ s. o ≡ settings (request_in s)))
     (values_decide _ _ c.in-Ok.ensures.given.0 c.in-Ok.ensures.given.1) c.settings_by.ensures.settings
 
 pub returns-in-Ok-clause-refused : goal.returns-in-Ok-clause-refused

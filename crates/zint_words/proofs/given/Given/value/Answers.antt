@@ -6,4 +6,4 @@ use Rattle.zint_words.proofs.given.Given.value.Goals as goal
 
 pub returns : goal.returns
 unfolding values_of values_in
-returns c = let by_rows = first_value-rows (found_of c.args.self.now.matches) c.row-row.result.long.now in cc
+returns c = let by_rows = first_value-rows (found_of c.args.self.now.matches) c.long.result.now in cc

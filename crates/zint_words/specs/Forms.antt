@@ -1,0 +1,61 @@
+-- The forms of the output: the name of each, the ending of the files that are of it, and whether it is written.
+use Rattle.std.specs.Prelude.{Bool, false, List, [], find, Option, None, map, nat_eq, option_map, slice_index_or, unwrap_or}
+use Rattle.std.specs.List.{ends_with, list_any}
+use Rattle.std.specs.Option.{option_map_or}
+use Rattle.std.specs.Str.{bytes_eq}
+use denote.Enum.Declared.{tag_of}
+use Rattle.clap.specs.Words.{Text}
+use Rattle.zint_words.specs.contracts.form.Form.{the_type}
+use Rattle.zint_words.specs.declared.form.Form.{Form}
+use Rattle.zint_words.specs.declared.form.Form.TheVariants.{Svg, Grid}
+use Rattle.zint_words.specs.declared.form.TheConstants.{FORMS, FORM_ROWS, LEFT_OUT}
+
+pub record FormRow : Type 0 where
+  pub form : Form
+  pub name : Text
+  pub ending : Option Text
+  pub is_built : Bool
+
+-- the rows of the table, one for each form in the order of their variants
+abbrev pub form_rows : List FormRow
+form_rows = map (λ row. record {
+  form = row.0;
+  name = row.1.now;
+  ending = option_map (λ e. e.now) row.2;
+  is_built = row.3;
+}) FORM_ROWS.now
+
+unfoldable pub form_row : Form → FormRow
+form_row f = slice_index_or form_rows (tag_of the_type f)
+    (record { form = Svg; name = []; ending = None; is_built = false })
+
+-- the name that `--filetype` takes
+unfoldable pub form_name : Form → Text
+form_name f = (form_row f).name
+
+-- the form is written
+unfoldable pub is_built_form : Form → Bool
+is_built_form f = (form_row f).is_built
+
+-- the form with the name
+unfoldable pub form_in : Text → Option Form
+form_in t = find (λ form. bytes_eq (form_name form) t) FORMS.now
+
+-- the name ends in the text
+unfoldable pub ends_in : Text → Text → Bool
+ends_in ending name = ends_with nat_eq name ending
+
+-- the file's name ends as files of the form do
+unfoldable pub is_asked_by : Form → Text → Bool
+is_asked_by form name = option_map_or (λ ending. ends_in ending name) (form_row form).ending false
+
+abbrev pub form_ending : Text → Option Form
+form_ending name = find (λ form. is_asked_by form name) FORMS.now
+
+-- the form that a file's name asks for by its ending, and the grid where it asks for no other
+unfoldable pub form_by_ending : Text → Form
+form_by_ending name = unwrap_or (form_ending name) Grid
+
+-- the name ends as files of a form do that is left out
+unfoldable pub has_left_out_ending : Text → Bool
+has_left_out_ending name = list_any (λ ending. ends_in ending.now name) LEFT_OUT

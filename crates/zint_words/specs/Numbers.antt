@@ -1,0 +1,33 @@
+-- Whole numbers as texts write them.
+use Rattle.std.specs.Prelude.{ℕ, Bool, ◌&&◌, ◌==◌, nat_lt, nat_le, length, Option, Some, None, if◌then◌else◌, option_and_then}
+use Rattle.std.specs.Char.{is_ascii_digit}
+use Rattle.std.specs.List.{list_all, list_any}
+use Rattle.std.specs.Str.Parse.{digits_value}
+use Rattle.clap.specs.Words.{Text}
+use Rattle.zint_words.specs.declared.values.TheConstants.{CHARACTER_SETS}
+
+-- 1 to 10 decimal digits
+abbrev pub is_whole_number : Text → Bool
+is_whole_number t = nat_lt 0 (length t) && nat_le (length t) 10 && list_all is_ascii_digit t
+
+-- the number that such a text writes
+unfoldable pub whole_number : Text → Option ℕ
+whole_number t = if is_whole_number t then Some (digits_value 10 t) else None
+
+abbrev pub kept_between : ℕ → ℕ → ℕ → Option ℕ
+kept_between low high n = if nat_le low n && nat_le n high then Some n else None
+
+-- a whole number from low to high
+unfoldable pub whole_number_in : ℕ → ℕ → Text → Option ℕ
+whole_number_in low high t = option_and_then (kept_between low high) (whole_number t)
+
+-- the number is the ECI number of a character set that texts are encoded in
+unfoldable pub is_character_set : ℕ → Bool
+is_character_set n = list_any (λ set. set == n) CHARACTER_SETS
+
+abbrev pub kept_character_set : ℕ → Option ℕ
+kept_character_set n = if is_character_set n then Some n else None
+
+-- the ECI number of a character set
+unfoldable pub character_set_in : Text → Option ℕ
+character_set_in t = option_and_then kept_character_set (whole_number_in 0 999999 t)

@@ -1,0 +1,23 @@
+-- What the table of the options says of an option besides its names.
+use Rattle.std.specs.Prelude.{Bool, true, List}
+use Rattle.std.specs.List.{list_any}
+use Rattle.std.specs.Option.{option_map_or}
+use Rattle.zint_words.specs.CommandLine.{option_row}
+use Rattle.zint_words.specs.Symbologies.{is_same_symbology}
+use Rattle.zint_words.specs.declared.options.OptionName.{OptionName}
+use Rattle.zint_words.specs.declared.symbology.Symbology.{Symbology}
+
+abbrev pub has_symbology : List Symbology → Symbology → Bool
+has_symbology symbologies s = list_any (λ other. is_same_symbology other s) symbologies
+
+-- the option is for the symbology
+unfoldable pub suits : OptionName → Symbology → Bool
+suits n s = option_map_or (λ suited. has_symbology suited s) (option_row n).suited true
+
+-- the option is for GS1 data, as for all other data
+unfoldable pub is_for_gs1 : OptionName → Bool
+is_for_gs1 n = (option_row n).is_for_gs1
+
+-- this program acts on the option
+unfoldable pub is_built_option : OptionName → Bool
+is_built_option n = (option_row n).is_built

@@ -1,0 +1,57 @@
+-- The symbologies: the number of each, its name, its versions, and whether it is drawn.
+use Rattle.std.specs.Prelude.{ℕ, Bool, false, List, [], ◌==◌, find, Option, map, option_and_then, slice_index_or}
+use denote.Enum.Bare.{sameb}
+use denote.Enum.Declared.{tag_of}
+use Rattle.clap.specs.Words.{Text}
+use Rattle.zint_words.specs.contracts.symbology.Symbology.{the_type}
+use Rattle.zint_words.specs.declared.symbology.Symbology.{Symbology}
+use Rattle.zint_words.specs.declared.symbology.Symbology.TheVariants.{Code39}
+use Rattle.zint_words.specs.declared.symbology.TheConstants.{SYMBOLOGIES, SYMBOLOGY_ROWS}
+use Rattle.zint_words.specs.Numbers.{whole_number}
+
+pub record SymbologyRow : Type 0 where
+  pub symbology : Symbology
+  pub number : ℕ
+  pub name : Text
+  pub greatest_version : ℕ
+  pub is_built : Bool
+
+-- the rows of the table, one for each symbology in the order of their variants
+abbrev pub symbology_rows : List SymbologyRow
+symbology_rows = map (λ row. record {
+  symbology = row.0;
+  number = row.1;
+  name = row.2.now;
+  greatest_version = row.3;
+  is_built = row.4;
+}) SYMBOLOGY_ROWS.now
+
+unfoldable pub symbology_row : Symbology → SymbologyRow
+symbology_row s = slice_index_or symbology_rows (tag_of the_type s)
+    (record { symbology = Code39; number = 0; name = []; greatest_version = 0; is_built = false })
+
+-- the number that `-b` takes
+unfoldable pub symbology_number : Symbology → ℕ
+symbology_number s = (symbology_row s).number
+
+unfoldable pub symbology_name : Symbology → Text
+symbology_name s = (symbology_row s).name
+
+-- the greatest value of `--vers`
+unfoldable pub greatest_version : Symbology → ℕ
+greatest_version s = (symbology_row s).greatest_version
+
+-- the symbology is drawn
+unfoldable pub is_built_symbology : Symbology → Bool
+is_built_symbology s = (symbology_row s).is_built
+
+abbrev pub is_same_symbology : Symbology → Symbology → Bool
+is_same_symbology a b = sameb the_type a b
+
+-- the symbology with the number
+unfoldable pub symbology_numbered : ℕ → Option Symbology
+symbology_numbered n = find (λ s. symbology_number s == n) SYMBOLOGIES.now
+
+-- the symbology whose number the text writes
+unfoldable pub symbology_in : Text → Option Symbology
+symbology_in t = option_and_then symbology_numbered (whole_number t)
