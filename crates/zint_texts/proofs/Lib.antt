@@ -1,2 +1,3 @@
 pub mod GridLines
 pub mod Numbers
+pub mod Steps

@@ -1,3 +1,5 @@
 pub mod Detail
 pub mod FaultLine
+pub mod Refusals
 pub mod Report
+pub mod Steps

@@ -1,13 +1,17 @@
-//! The texts that the command writes: the lines of a grid, the head of a report, the details and lines of faults.
+//! The texts that the command writes: the lines of a grid, pieces of a report, refusals and the lines of faults.
 #![tactic(auto)]
 
 mod detail;
-mod lines;
-mod put;
+mod fault;
+mod fault_line;
+mod grid_lines;
+mod grid_text;
+mod refusal;
 mod report;
-mod writing;
 
-pub use detail::{Kind, Unit, limit_detail, place_detail, size_detail};
-pub use lines::{LONGEST_LINE, grid_line};
-pub use report::{aztec_head, rune_head};
-pub use writing::{write_fault, write_grid};
+pub use detail::{Kind, Unit};
+pub use fault::Fault;
+pub use fault_line::write_fault;
+pub use grid_text::write_grid;
+pub use refusal::Refusal;
+pub use report::{put_bits, put_number, put_numbers, put_size, put_text};

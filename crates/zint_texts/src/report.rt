@@ -1,75 +1,70 @@
-ghost use Rattle.std.specs.Prelude.{◌≡◌, ◌++◌, ◌<◌, IfOk, OnOk, length, map, drop};
+//! Pieces of a report.
+ghost use Rattle.std.specs.Prelude.{◌≡◌, ◌++◌, OnOk, decimal, map};
 ghost use Rattle.bar_base.specs.GridText.{module_text};
-ghost use Rattle.zint_texts.specs.Report.{spaced_text, aztec_head_of, rune_head_of};
+ghost use Rattle.zint_texts.specs.Report.{numbers_text, size_text, spaced_text};
 
-use crate::lines::digit;
-use crate::put::{put_number, put_size, put_text};
-use bar_base::{Bits, NoMemory, Short};
-use std::alloc::Global;
+use crate::grid_lines::digit;
+use aztec_layout::Size;
+use bar_base::{Bits, NoMemory};
+use itoa::Buffer;
+
+/// Puts `piece` at the end of `text`.
+pub fn put_text(text: &mut Vec<u8>, piece: &[u8]) -> Result<(), NoMemory>
+    ensures { OnOk result (text.new.items ≡ text.old.items ++ piece.now) }
+{
+    match text.extend_from_slice(piece) {
+        Ok(()) => Ok(()),
+        Err(_) => Err(NoMemory),
+    }
+}
+
+/// Puts the decimal digits of `number` at the end of `text`.
+pub fn put_number(text: &mut Vec<u8>, number: u64) -> Result<(), NoMemory>
+    ensures { OnOk result (text.new.items ≡ text.old.items ++ decimal number) }
+{
+    let mut buffer = Buffer::new();
+    put_text(text, buffer.format(number).as_bytes())
+}
+
+/// Puts the name of a size at the end of `text`.
+pub fn put_size(text: &mut Vec<u8>, size: Size) -> Result<(), NoMemory>
+    ensures { OnOk result (text.new.items ≡ text.old.items ++ size_text size) }
+{
+    put_text(text, if size.full { b"full " } else { b"compact " })?;
+    put_number(text, u64::from(size.layers))
+}
 
 /// Puts the bits at the end of `text`, `1` and `0`.
-fn put_bits(text: &mut Vec<u8>, bits: &Bits) -> Result<(), NoMemory>
+pub fn put_bits(text: &mut Vec<u8>, bits: &Bits) -> Result<(), NoMemory>
     ensures { OnOk result (text.new.items ≡ text.old.items ++ map module_text bits.now) }
 {
-    for at in 0..bits.len() {
-        let bit = bits.get(at).unwrap();
-        put_text(text, &[digit(bit)])?;
+    for bit in bits.as_slice() {
+        put_text(text, &[digit(*bit)])?;
     }
     Ok(())
 }
 
-/// The lines of a report before its grid, for an Aztec symbol: the number of bits and the bits of its spelling, its size, the
-/// modules of a side, the codewords that hold data and the check codewords.
-pub fn aztec_head(
-    alloc: Global,
-    spelling: &Bits,
-    full: bool,
-    layers: u64,
-    side: u64,
-    held: u64,
-    check: u64,
-) -> Result<Vec<u8>, NoMemory>
-    ensures { IfOk result (λ head. head.items ≡ aztec_head_of spelling.now full layers side held check) }
+/// Puts a space and the decimal digits of each number at the end of `text`.
+fn put_spaced(text: &mut Vec<u8>, numbers: &[u8]) -> Result<(), NoMemory>
+    ensures { OnOk result (text.new.items ≡ text.old.items ++ spaced_text numbers.now) }
 {
-    let mut head = Vec::new(alloc);
-    put_text(&mut head, b"symbol=92\nbits=")?;
-    put_number(&mut head, spelling.len() as u64)?;
-    put_text(&mut head, b"\nspelling=")?;
-    put_bits(&mut head, spelling)?;
-    put_text(&mut head, b"\nsize=")?;
-    put_size(&mut head, full, layers)?;
-    put_text(&mut head, b"\nside=")?;
-    put_number(&mut head, side)?;
-    put_text(&mut head, b"\ncodewords=")?;
-    put_number(&mut head, held)?;
-    put_text(&mut head, b"+")?;
-    put_number(&mut head, check)?;
-    put_text(&mut head, b"\ngrid:\n")?;
-    Ok(head)
-}
-
-/// Puts a space and the decimal digits of each word from the second on at the end of `text`.
-fn put_rest(text: &mut Vec<u8>, words: &Short<7>) -> Result<(), NoMemory>
-    requires { 0 < length words.now }
-    ensures { OnOk result (text.new.items ≡ text.old.items ++ spaced_text (drop 1 words.now)) }
-{
-    for at in 1..words.len() {
-        let word = words.get(at).unwrap();
+    for number in numbers {
         put_text(text, b" ")?;
-        put_number(text, word as u64)?;
+        put_number(text, u64::from(*number))?;
     }
     Ok(())
 }
 
-/// The lines of a report before its grid, for a rune of these mode words before the exclusive-or.
-pub fn rune_head(alloc: Global, words: &Short<7>) -> Result<Vec<u8>, NoMemory>
-    requires { 0 < length words.now }
-    ensures { IfOk result (λ head. head.items ≡ rune_head_of words.now) }
+/// Puts the decimal digits of each number at the end of `text`, with one space between.
+pub fn put_numbers(text: &mut Vec<u8>, numbers: &[u8]) -> Result<(), NoMemory>
+    ensures { OnOk result (text.new.items ≡ text.old.items ++ numbers_text numbers.now) }
 {
-    let mut head = Vec::new(alloc);
-    put_text(&mut head, b"symbol=128\nwords=")?;
-    put_number(&mut head, words.get(0).unwrap() as u64)?;
-    put_rest(&mut head, words)?;
-    put_text(&mut head, b"\nside=11\ngrid:\n")?;
-    Ok(head)
+    match numbers.split_first() {
+        Some((first, rest)) => {
+            put_number(text, u64::from(*first))?;
+            put_spaced(text, rest)?;
+            Ok(())
+        }
+        None => Ok(()),
+    }
 }

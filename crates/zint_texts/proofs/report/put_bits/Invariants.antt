@@ -2,6 +2,6 @@ use Rattle.std.proofs.Common.{◌≡◌, ◌++◌, map, take}
 use Rattle.bar_base.specs.GridText.{module_text}
 use Rattle.zint_texts.proofs.report.put_bits.Given as goal
 
--- the bits before this place were put
-abbrev pub invariant-loop-at : goal.invariant-loop-at
-invariant-loop-at l = l.text.items ≡ l.initial.text.items ++ map module_text (take l.at l.bits)
+-- the bits so far were put
+abbrev pub invariant-loop-bit : goal.invariant-loop-bit
+invariant-loop-bit l = l.text.items ≡ l.initial.text.items ++ map module_text (take l.bit-index l.bits)

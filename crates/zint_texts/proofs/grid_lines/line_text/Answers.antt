@@ -5,7 +5,7 @@ use Rattle.bar_base.specs.Picture.{row_of}
 use Rattle.bar_base.proofs.ListLemmas.{take_next}
 use Rattle.bar_base.proofs.PictureLemmas.{row_module}
 use Rattle.std.proofs.Common.{◌<◌}
-use Rattle.zint_texts.proofs.lines.grid_line.Goals as goal
+use Rattle.zint_texts.proofs.grid_lines.line_text.Goals as goal
 
 pub loop-x-preserved : goal.loop-x-preserved
 loop-x-preserved c =

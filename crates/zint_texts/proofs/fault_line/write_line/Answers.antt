@@ -3,7 +3,7 @@ use Rattle.std.specs.Io.KnownBytes.{Appends}
 use Rattle.std.proofs.KnownBytes.{Appends-trans}
 use Rattle.bar_base.proofs.Appended.{AppendsPrefix-after, on_refusal}
 use Rattle.zint_texts.specs.FaultLine.{fault_front}
-use Rattle.zint_texts.proofs.writing.write_fault.Goals as goal
+use Rattle.zint_texts.proofs.fault_line.write_line.Goals as goal
 
 pub returns-in_err-write_all-3-clause-part : goal.returns-in_err-write_all-3-clause-part
 returns-in_err-write_all-3-clause-part g c =

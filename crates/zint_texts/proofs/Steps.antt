@@ -1,0 +1,21 @@
+-- Where a row of steps ends.
+use Rattle.std.proofs.Common.{◌≡◌, Ok, Err, inl, inr, Result}
+use Rattle.zint_texts.specs.Steps.{Step, Then, Refuses}
+use Rattle.zint_texts.specs.declared.fault.Fault.{Fault}
+use Rattle.zint_texts.specs.declared.fault.Fault.TheVariants.{NoMemory, Unread, Unwritten, Refused}
+
+-- at its first step
+pub refused_first : {A B : Type 0} (first : Step A) (second : A → Step B) (fault : Fault) → Refuses first fault → Refuses (Then first second) fault
+refused_first first second NoMemory refused = tt
+refused_first first second Unread refused = refused
+refused_first first second Unwritten refused = refused
+refused_first first second (Refused refusal) refused = inl refused
+
+-- after its first step
+pub refused_later : {A B : Type 0} (first : Step A) (second : A → Step B) (x : A) (fault : Fault) → first (Ok x) → Refuses (second x) fault → Refuses (Then first second) fault
+refused_later first second x NoMemory value refused = tt
+refused_later first second x Unread value refused = refused
+refused_later first second x Unwritten value refused = refused
+refused_later first second x (Refused refusal) value refused = inr (x, value, refused)
+
+pub ruleset stepping = (refused_first, refused_later)
