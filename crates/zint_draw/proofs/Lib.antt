@@ -1,0 +1,2 @@
+pub mod LinearFaults
+pub mod Messages

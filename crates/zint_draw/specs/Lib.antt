@@ -1,0 +1,4 @@
+pub mod Data
+pub mod Drawing
+pub mod Message
+pub mod symbologies

@@ -1,0 +1,96 @@
+//! Aztec Code (ISO/IEC 24778).
+ghost use Rattle.std.specs.Prelude.{◌≡◌, ◌≤◌, ◌<◌, IfOk, length};
+ghost use Rattle.aztec_modes.specs.Message.{IsMessage, message_elements};
+ghost use Rattle.zint_texts.specs.Steps.{Gives, only};
+ghost use Rattle.zint_draw.specs.symbologies.Aztec.{draws, draws_elements, elements_for, head_of, within_limit};
+
+use crate::message::{data_kind, message_for};
+use crate::symbologies::Symbol;
+use aztec_best::MOST_ELEMENTS;
+use aztec_draw::{DrawFault, Symbol as AztecSymbol, draw_elements};
+use aztec_layout::{Allowed, codewords, side};
+use aztec_modes::elements_of;
+use bar_base::{Elements, Message, NoMemory};
+use std::alloc::Global;
+use zint_texts::{Fault, Refusal, Unit, put_bits, put_number, put_size, put_text};
+use zint_words::DrawingSettings;
+
+/// The symbol of data.
+#[tactic(auto, using(zint_texts::proofs::Steps::stepping), unfolding(crate::specs::symbologies::Aztec::draws))]
+pub fn draw(alloc: Global, settings: &DrawingSettings<'_>, bytes: &[u8]) -> Result<Symbol, Fault>
+    requires { 0 < length bytes.now }
+    ensures { Gives (λ symbol. symbol) result (draws settings.now.options bytes.now) }
+{
+    let elements = elements_for(alloc, settings, bytes)?;
+    draw_spelling(alloc, settings, &elements)
+}
+
+/// The elements of data, of which there are not too many.
+#[tactic(auto, using(zint_texts::proofs::Steps::stepping), unfolding(crate::specs::symbologies::Aztec::elements_for))]
+fn elements_for(
+    alloc: Global,
+    settings: &DrawingSettings<'_>,
+    bytes: &[u8],
+) -> Result<Elements, Fault>
+    requires { 0 < length bytes.now }
+    ensures given { Gives (λ elements. elements) result (elements_for settings.now.options bytes.now) }
+    ensures some { IfOk result (λ elements. 0 < length elements) }
+    ensures within { IfOk result (λ elements. length elements ≤ MOST_ELEMENTS) }
+{
+    let message = message_for(alloc, data_kind(settings), bytes)?;
+    within_limit(alloc, &message)
+}
+
+/// The elements of a message, of which there are not too many.
+fn within_limit(alloc: Global, message: &Message) -> Result<Elements, Fault>
+    requires { IsMessage message.now }
+    ensures given { Gives (λ elements. elements) result (only (within_limit (message_elements message.now))) }
+    ensures same { IfOk result (λ elements. elements ≡ message_elements message.now) }
+    ensures within { IfOk result (λ elements. length elements ≤ MOST_ELEMENTS) }
+{
+    let elements = elements_of(alloc, message)?;
+    if elements.len() > MOST_ELEMENTS {
+        return Err(Fault::Refused(Refusal::TooLong(MOST_ELEMENTS as u64, Unit::Elements)));
+    }
+    Ok(elements)
+}
+
+/// The symbol of elements.
+fn draw_spelling(
+    alloc: Global,
+    settings: &DrawingSettings<'_>,
+    elements: &Elements,
+) -> Result<Symbol, Fault>
+    requires some { 0 < length elements.now }
+    requires within { length elements.now ≤ MOST_ELEMENTS }
+    ensures { Gives (λ symbol. symbol) result (draws_elements settings.now.options elements.now) }
+{
+    let allowed = Allowed::of(settings.options.share, settings.options.version);
+    match draw_elements(alloc, elements, allowed) {
+        Ok(symbol) => Ok(Symbol::Aztec(symbol)),
+        Err(DrawFault::NoMemory) => Err(Fault::NoMemory),
+        Err(DrawFault::NoFit(misfit)) => Err(Fault::Refused(Refusal::NoFit(misfit))),
+    }
+}
+
+/// The lines of the report before the grid: the number of bits and the bits of the spelling, the size, the modules of a side, the
+/// codewords that hold data and the check codewords.
+pub fn head(alloc: Global, symbol: &AztecSymbol) -> Result<Vec<u8>, NoMemory>
+    ensures { IfOk result (λ head. head.items ≡ head_of symbol.now) }
+{
+    let mut head = Vec::new(alloc);
+    put_text(&mut head, b"symbol=92\nbits=")?;
+    put_number(&mut head, symbol.spelling.len() as u64)?;
+    put_text(&mut head, b"\nspelling=")?;
+    put_bits(&mut head, &symbol.spelling)?;
+    put_text(&mut head, b"\nsize=")?;
+    put_size(&mut head, symbol.size)?;
+    put_text(&mut head, b"\nside=")?;
+    put_number(&mut head, u64::from(side(symbol.size)))?;
+    put_text(&mut head, b"\ncodewords=")?;
+    put_number(&mut head, u64::from(symbol.held))?;
+    put_text(&mut head, b"+")?;
+    put_number(&mut head, u64::from(codewords(symbol.size) - symbol.held))?;
+    put_text(&mut head, b"\ngrid:\n")?;
+    Ok(head)
+}
