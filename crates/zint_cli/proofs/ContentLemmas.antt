@@ -3,28 +3,25 @@ use Rattle.std.proofs.Common.{◌≡◌, ◌<◌, ℕ, List, Some, None, length,
 use Rattle.std.specs.declared.option.Option.{Option}
 use Rattle.std.specs.Option.{option_map}
 use Rattle.std.specs.List.{starts_with}
-use Rattle.bar_base.specs.Files.{FilesState, Reading, Lacks, Opens, left_of, beside_left, beside_reading}
+use Rattle.bar_base.specs.Files.{FilesState, Reading, Lacks, Opens, left_of, beside_left, beside_reading, files_in, SameFiles}
+use Rattle.bar_base.specs.Limits.{most_bytes}
 use Rattle.bar_base.specs.Input.{limit_for, IsTooLong}
-use Rattle.zint_cli.specs.Content.{Content, known, missing, told_content, file_content, named_content, IsLong, IsContent, IsUntaken, too_long}
-use Rattle.zint_cli.specs.NamedFile.{SameFiles}
-use Rattle.zint_cli.specs.Response.{IsFaultOf}
-use Rattle.zint_cli.specs.declared.fault.Fault.{Fault}
-use Rattle.zint_cli.specs.declared.fault.Fault.TheVariants as fault
+use Rattle.zint_cli.specs.Content.{Content, known, missing, content_left, file_content, named_content, IsLong, IsContent, IsUntaken}
 
 -- where both limits are one, it counts for every input
 pub limit_same : (limit : ℕ) (input : List ℕ) → limit_for limit limit input ≡ limit
 limit_same limit input = elim (starts_with nat_eq input (codes "BM")) as (λ b. (if b then limit else limit) ≡ limit) [ true ↦ refl | false ↦ refl ]
 
 -- all that was left is the content
-pub content_taken : (left : Option (List ℕ)) (bytes : List ℕ) → IfSome left (λ input. bytes ≡ input) → IsContent (told_content left) bytes
+pub content_taken : (left : Option (List ℕ)) (bytes : List ℕ) → IfSome left (λ input. bytes ≡ input) → IsContent (content_left left) bytes
 content_taken None bytes whole = tt
 content_taken (Some input) bytes whole = whole
 
 -- an input that was too long is a content that is too long
-pub content_long : (old new : Option (List ℕ)) (counts : ℕ) → IsTooLong 65536 65536 old new counts → IsLong (told_content old)
+pub content_long : (old new : Option (List ℕ)) (counts : ℕ) → IsTooLong most_bytes most_bytes old new counts → IsLong (content_left old)
 content_long None new counts long = tt
 content_long (Some input) new counts long =
-    let limit : counts ≡ 65536 = long.whole.0 ∙ limit_same 65536 input in
+    let limit : counts ≡ most_bytes = long.whole.0 ∙ limit_same most_bytes input in
     let P : ℕ → Type 0 = λ n. n < length input in
     subst P limit long.whole.1
 
@@ -32,13 +29,13 @@ pub ruleset reading = (limit_same, content_taken, content_long)
 
 -- a file that was opened has the content of its name left
 pub opened_content : (name : List ℕ) (old new : Option FilesState) → Opens name old new → option_map beside_reading new ≡ option_map beside_reading old
-    → told_content (left_of new) ≡ named_content name old
+    → content_left (left_of new) ≡ named_content name old
 opened_content name None None opens beside = refl
 opened_content name None (Some t) opens beside = cc
 opened_content name (Some s) None opens beside = absurd opens
 opened_content name (Some s) (Some t) opens beside =
-    let read : told_content (option_map {T = Reading} (λ r. r.left) t.reading) ≡ known opens.0 =
-    ap (λ r. told_content (option_map {T = Reading} (λ x. x.left) r)) opens.2 in
+    let read : content_left (option_map {T = Reading} (λ r. r.left) t.reading) ≡ known opens.0 =
+    ap (λ r. content_left (option_map {T = Reading} (λ x. x.left) r)) opens.2 in
     read ∙ sym (ap file_content opens.1)
 
 -- a name that the told files lack has no content
@@ -51,17 +48,12 @@ pub same_beside_left : (old new : Option FilesState) → option_map beside_left 
 same_beside_left None None beside = refl
 same_beside_left None (Some t) beside = cc
 same_beside_left (Some s) None beside = cc
-same_beside_left (Some s) (Some t) beside = ap (option_map {T = FilesState} (λ state. state.files)) beside
+same_beside_left (Some s) (Some t) beside = ap (λ (state : Option FilesState). files_in state) beside
 
 pub same_beside_reading : (old new : Option FilesState) → option_map beside_reading new ≡ option_map beside_reading old → SameFiles old new
 same_beside_reading None None beside = refl
 same_beside_reading None (Some t) beside = cc
 same_beside_reading (Some s) None beside = cc
-same_beside_reading (Some s) (Some t) beside = ap (option_map {T = FilesState} (λ state. state.files)) beside
+same_beside_reading (Some s) (Some t) beside = ap (λ (state : Option FilesState). files_in state) beside
 
 pub ruleset opening = (opened_content, content_lacks, same_beside_left, same_beside_reading)
-
--- a content that is too long is not taken
-pub untaken_long : (content : Content) (faulted : Type 0) (f : Fault) → IsLong content → IsFaultOf (λ response. response ≡ too_long) f → IsFaultOf (IsUntaken content faulted) f
-untaken_long content faulted fault.NoMemory long is = tt
-untaken_long content faulted (fault.Refused status detail) long is = inl (long, is)

@@ -1,86 +1,126 @@
 -- The headline's two parts, from what was written.
-use Rattle.std.proofs.Common.{◌≡◌, ◌≤◌, ℕ, Bool, List, refl, inl, inr, length, arith}
+use Rattle.std.proofs.Common.{◌≡◌, ◌≤◌, ℕ, Bool, List, [], ◌∷◌, Ok, subst, sym, ap, ◌∙◌, inl, inr, length, arith}
 use Rattle.std.specs.declared.option.Option.{Option}
 use Rattle.bar_base.specs.Files.{FilesState}
+use Rattle.bar_base.specs.declared.element.Element.{Element}
 use Rattle.aztec_best.specs.Shortest.{Precedes}
-use Rattle.aztec_modes.specs.Entry.{bytes_as_elements}
+use Rattle.aztec_layout.specs.Allowed.{allowed_of}
+use Rattle.aztec_draw.specs.Symbol.{IsAztecSymbol}
+use Rattle.aztec_draw.specs.declared.symbol.Symbol.{Symbol as AztecSymbol}
 use Rattle.zint_words.specs.Outcome.{Outcome, usage, bad_option, settings}
-use Rattle.zint_words.specs.Settings.{Request}
-use Rattle.zint_words.specs.declared.symbol.Symbol.TheVariants.{Aztec}
-use Rattle.zint_cli.specs.Answers.{Responds, IsAztecText}
-use Rattle.zint_cli.specs.Content.{Content, known, missing, untold, content_of, IsContent}
-use Rattle.zint_cli.specs.Drawn.{DrawsSo, IsDataOf, IsShortest, IsSmallest}
-use Rattle.zint_cli.specs.Outcome.{Shows}
-use Rattle.zint_cli.specs.Response.{shown}
-use Rattle.zint_cli.proofs.Coming.{Comes, early, aztec, rune, come_answers}
+use Rattle.zint_words.specs.Settings.{DrawingRequest, Request, drawing}
+use Rattle.zint_words.specs.declared.drawing_options.DrawingOptions.{DrawingOptions}
+use Rattle.zint_words.specs.declared.symbology.Symbology.TheVariants.{Aztec}
+use Rattle.zint_draw.specs.Data.{data_of, not_empty}
+use Rattle.zint_draw.specs.Drawing.{draws}
+use Rattle.zint_draw.specs.declared.symbologies.Symbol.{Symbol}
+use Rattle.zint_draw.specs.declared.symbologies.Symbol.TheVariants as symbols
+use Rattle.zint_draw.specs.symbologies.{draws_as, draws_in}
+use Rattle.zint_draw.specs.symbologies.Aztec as aztec
+use Rattle.zint_cli.specs.Call.{before_of, called, draws_text, origin_of, output_of, responds, text_in}
+use Rattle.zint_cli.specs.Content.{Content, content_of, IsContent}
+use Rattle.zint_cli.specs.Ending.{WritesText}
+use Rattle.zint_cli.specs.Headline.{DrawsAztec, DrawsSo, DrawsSymbol, HasSmallestSize, IsShortest}
 
--- the data of a text that is shown for an Aztec symbol
-record Found (request : Request) (content : Content) (text : List ℕ) : Type 0 where
+-- the data, the elements and the symbol of a text that is written for Aztec
+record Found (request : DrawingRequest) (content : Content) (text : List ℕ) : Type 0 where
   raw : List ℕ
   is_content : IsContent content raw
   data_bytes : List ℕ
-  is_data : IsDataOf request raw data_bytes
-  found : IsAztecText request (bytes_as_elements data_bytes) text
+  is_data : data_of request.options.escapes raw (Ok data_bytes)
+  elements : List Element
+  are_elements : aztec.elements_for request.options data_bytes (Ok elements)
+  symbol : AztecSymbol
+  is_symbol : IsAztecSymbol elements (allowed_of request.options.share request.options.version) symbol
+  text_is : text ≡ text_in request.options.form (symbols.Aztec symbol)
 
-found_in : (request : Request) (content : Content) (raw text : List ℕ) → request.symbol ≡ Aztec → IsContent content raw → Comes request raw (shown text) → Found request content text
-found_in request content raw text asked is_content (early cause detail differs is) = cc
-found_in request content raw text asked is_content (aztec bytes of few) = record { raw = raw; is_content = is_content; data_bytes = bytes; is_data = of; found = few }
-found_in request content raw text asked is_content (rune value is shows) = cc
+pub some_same : (bytes some : List ℕ) → Ok some ≡ not_empty bytes → some ≡ bytes
+some_same [] some is = cc
+some_same (byte ∷ bytes) some is = cc
 
-found_for : (request : Request) (content : Content) (text : List ℕ) → request.symbol ≡ Aztec → Responds request content (shown text) → Found request content text
-unfolding Responds
-found_for request (known raw) text asked responds = found_in request (known raw) raw text asked refl (come_answers request raw (shown text) responds)
-found_for request missing text asked responds = cc
-found_for request untold text asked responds = found_in request untold responds.0 text asked tt (come_answers request responds.0 (shown text) responds.1)
+found_symbol : (request : DrawingRequest) (content : Content) (raw bytes text : List ℕ) (elements : List Element) (symbol : Symbol) → IsContent content raw
+    → data_of request.options.escapes raw (Ok bytes) → aztec.elements_for request.options bytes (Ok elements)
+    → aztec.draws_elements request.options elements (Ok symbol) → text ≡ text_in request.options.form symbol → Found request content text
+found_symbol request content raw bytes text elements (symbols.Aztec symbol) is_content is_data are drawn is = record {
+  raw = raw;
+  is_content = is_content;
+  data_bytes = bytes;
+  is_data = is_data;
+  elements = elements;
+  are_elements = are;
+  symbol = symbol;
+  is_symbol = drawn;
+  text_is = is;
+}
+found_symbol request content raw bytes text elements (symbols.Rune symbol) is_content is_data are drawn is = absurd drawn
+found_symbol request content raw bytes text elements (symbols.Code128 symbol) is_content is_data are drawn is = absurd drawn
+found_symbol request content raw bytes text elements (symbols.Code39 symbol) is_content is_data are drawn is = absurd drawn
+found_symbol request content raw bytes text elements (symbols.ExtendedCode39 symbol) is_content is_data are drawn is = absurd drawn
+found_symbol request content raw bytes text elements (symbols.Code93 symbol) is_content is_data are drawn is = absurd drawn
+found_symbol request content raw bytes text elements (symbols.Itf14 symbol) is_content is_data are drawn is = absurd drawn
+found_symbol request content raw bytes text elements (symbols.Rm4scc symbol) is_content is_data are drawn is = absurd drawn
+
+found_for : (request : DrawingRequest) (content : Content) (text : List ℕ) → request.options.symbology ≡ Aztec → draws_text request content (Ok text)
+    → Found request content text
+unfolding draws_text draws draws_as aztec.draws
+found_for request content text asked (raw, (is_content, within), (symbol, (bytes, is_data, (some, some_is, drawn)), is)) =
+    let (elements, are, symbol_is) = subst (λ symbology. draws_in symbology request.options some (Ok symbol)) asked drawn in
+    let text_is : text ≡ text_in request.options.form symbol = cc in
+    found_symbol request content raw bytes text elements symbol is_content is_data
+    (subst (λ given. aztec.elements_for request.options given (Ok elements)) (some_same bytes some some_is) are) symbol_is text_is
+
+-- the answer to a call whose words make a request is the answer for the request
+pub responded : (request : Request) (left : Option (List ℕ)) (files : Option FilesState) (text : List ℕ)
+    → called (before_of (settings request) left files) (Ok text) → responds request (content_of (origin_of request) left files) (Ok text)
+unfolding called
+responded request left files text (other, is, responds_other) =
+    let same : other ≡ request = cc in
+    subst (λ r. responds r (content_of (origin_of r) left files) (Ok text)) same responds_other
 
 -- what precedes is no longer
 precedes_shorter : (former latter : List Bool) → Precedes former latter → length former ≤ length latter
 precedes_shorter former latter (inl shorter) = omega (arith, shorter)
 precedes_shorter former latter (inr (same, order)) = omega (arith, same)
 
--- no spelling is shorter than the one that was drawn
-pub draws_shortest : (outcome : Outcome) (left : Option (List ℕ)) (files : Option FilesState) (IsOut : (output : Option (List ℕ)) (text : List ℕ) → Type 0)
-    → Shows outcome left files IsOut → DrawsSo outcome left files IsOut (λ request. IsShortest)
-draws_shortest usage left files IsOut shows = tt
-draws_shortest (bad_option detail) left files IsOut shows = tt
-draws_shortest (settings request) left files IsOut shows = λ asked.
-    let f = found_for request (content_of request.origin left files) shows.text asked shows.responds in
+-- The Aztec symbol that was written, with a fact that holds of every one that is drawn.
+draws_symbol : (Holds : DrawingOptions → List Element → AztecSymbol → Type 0)
+    → ((options : DrawingOptions) (elements : List Element) (symbol : AztecSymbol)
+    → IsAztecSymbol elements (allowed_of options.share options.version) symbol → Holds options elements symbol)
+    → (request : Request) (content : Content) (text : List ℕ) (IsOut : (output : Option (List ℕ)) (text : List ℕ) → Type 0)
+    → responds request content (Ok text) → IsOut (output_of request) text → DrawsAztec request content IsOut Holds
+draws_symbol Holds every (drawing request) content text IsOut responds out = λ asked.
+    let f = found_for request content text asked responds in
     record {
       raw = f.raw;
       is_content = f.is_content;
       data_bytes = f.data_bytes;
       is_data = f.is_data;
-      spelling = f.found.spelling;
-      size = f.found.size;
-      held = f.found.held;
-      picture = f.found.picture;
-      symbol = f.found.symbol;
-      text = shows.text;
-      text_is = f.found.text_is;
-      out = shows.out;
-      holds = λ other spells. precedes_shorter f.found.spelling other (f.found.symbol.drawn.first other spells);
+      elements = f.elements;
+      are_elements = f.are_elements;
+      symbol = f.symbol;
+      is_symbol = f.is_symbol;
+      out = subst (IsOut request.output) f.text_is out;
+      holds = every request.options f.elements f.symbol f.is_symbol;
     }
+
+draws_so : (Holds : DrawingOptions → List Element → AztecSymbol → Type 0)
+    → ((options : DrawingOptions) (elements : List Element) (symbol : AztecSymbol)
+    → IsAztecSymbol elements (allowed_of options.share options.version) symbol → Holds options elements symbol)
+    → (outcome : Outcome) (left : Option (List ℕ)) (files : Option FilesState) (IsOut : (output : Option (List ℕ)) (text : List ℕ) → Type 0)
+    → WritesText (before_of outcome left files) IsOut → DrawsSo (before_of outcome left files) IsOut Holds
+draws_so Holds every usage left files IsOut writes = tt
+draws_so Holds every (bad_option detail) left files IsOut writes = tt
+draws_so Holds every (settings request) left files IsOut writes =
+    draws_symbol Holds every request (content_of (origin_of request) left files) writes.text IsOut
+    (responded request left files writes.text writes.is_answer) writes.out
+
+-- no spelling is shorter than the one that was drawn
+pub draws_shortest : (outcome : Outcome) (left : Option (List ℕ)) (files : Option FilesState) (IsOut : (output : Option (List ℕ)) (text : List ℕ) → Type 0)
+    → WritesText (before_of outcome left files) IsOut → DrawsSo (before_of outcome left files) IsOut IsShortest
+draws_shortest =
+    draws_so IsShortest (λ options elements symbol is. λ other spells. precedes_shorter symbol.spelling other (is.drawn.first other spells))
 
 -- no allowed size that holds the spelling comes before the one that was drawn
 pub draws_smallest : (outcome : Outcome) (left : Option (List ℕ)) (files : Option FilesState) (IsOut : (output : Option (List ℕ)) (text : List ℕ) → Type 0)
-    → Shows outcome left files IsOut → DrawsSo outcome left files IsOut IsSmallest
-draws_smallest usage left files IsOut shows = tt
-draws_smallest (bad_option detail) left files IsOut shows = tt
-draws_smallest (settings request) left files IsOut shows = λ asked.
-    let f = found_for request (content_of request.origin left files) shows.text asked shows.responds in
-    let smallest = f.found.symbol.symbol.smallest in
-    record {
-      raw = f.raw;
-      is_content = f.is_content;
-      data_bytes = f.data_bytes;
-      is_data = f.is_data;
-      spelling = f.found.spelling;
-      size = f.found.size;
-      held = f.found.held;
-      picture = f.found.picture;
-      symbol = f.found.symbol;
-      text = shows.text;
-      text_is = f.found.text_is;
-      out = shows.out;
-      holds = ((smallest.allowed, smallest.holds), smallest.first);
-    }
+    → WritesText (before_of outcome left files) IsOut → DrawsSo (before_of outcome left files) IsOut HasSmallestSize
+draws_smallest = draws_so HasSmallestSize (λ options elements symbol is. is.symbol_of.smallest)

@@ -1,7 +1,6 @@
 pub mod AnswerLemmas
-pub mod Coming
 pub mod ContentLemmas
-pub mod DataLemmas
 pub mod FileLemmas
 pub mod Headline
+pub mod Headline128
 pub mod Serving

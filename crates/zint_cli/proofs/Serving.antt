@@ -1,68 +1,108 @@
--- From the response of a request to what the call does.
-use Rattle.std.proofs.Common.{◌≡◌, ℕ, List, refl, sym, ap, ◌∙◌, subst, inl, inr, codes}
+-- From the answer to what the call does.
+use Rattle.std.proofs.Common.{◌≡◌, ◌≢◌, ◌⊎◌, ℕ, List, Ok, Err, Result, refl, inl, inr}
 use Rattle.std.specs.declared.option.Option.{Option}
 use Rattle.bar_base.specs.Files.{FilesState}
-use Rattle.zint_words.specs.Outcome.{Outcome, usage, bad_option, settings}
+use Rattle.zint_texts.specs.FaultLine.{status_of}
+use Rattle.zint_texts.specs.Refusals.{refusal_status}
+use Rattle.zint_texts.specs.Steps.{Refuses}
+use Rattle.zint_texts.specs.declared.fault.Fault.{Fault}
+use Rattle.zint_texts.specs.declared.fault.Fault.TheVariants.{NoMemory, Unread, Unwritten, Refused}
+use Rattle.zint_texts.specs.declared.refusal.Refusal.{Refusal}
+use Rattle.zint_texts.specs.declared.refusal.Refusal.TheVariants.{Usage, TooLong, BadData, BadCheck, BadOption, NoFit}
+use Rattle.zint_words.specs.Outcome.{Outcome, settings}
 use Rattle.zint_words.specs.Settings.{Request}
-use Rattle.zint_cli.specs.Answers.{Answers, Responds}
-use Rattle.zint_cli.specs.Content.{Content, known, missing, untold, content_of, ReadFaulted}
-use Rattle.zint_cli.specs.Effects.{IsUnanswered, status_in}
-use Rattle.zint_cli.specs.Outcome.{HasStatus, ReadFails, RespondsTo}
-use Rattle.zint_cli.specs.Response.{Response, refused, shown, number_of, IsFaultOf}
-use Rattle.zint_cli.specs.declared.fault.Fault.{Fault}
-use Rattle.zint_cli.specs.declared.fault.Fault.TheVariants as fault
-use Rattle.zint_cli.specs.declared.status.Cause.{Cause}
-use Rattle.zint_cli.specs.declared.status.Cause.TheVariants.{Usage, TooLong, BadData, BadOption, NoFit, ReadFault}
-use Rattle.zint_cli.proofs.Coming.{Comes, early, aztec, rune, come_answers}
+use Rattle.zint_cli.specs.Call.{CallBefore, before_of, asked, called, origin_of, responds, IsUnanswered}
+use Rattle.zint_cli.specs.Content.{content_of, ReadFaulted}
+use Rattle.zint_cli.specs.Ending.{EndsWithLine, HasStatus, MayEnd, ReadFails}
 
--- the status of a response, as a number
-abbrev response_number : Response → ℕ
-response_number (shown out) = 0
-response_number (refused cause detail) = number_of cause
+-- the answer for a request is that of a call whose words make it
+pub called_settings : (request : Request) (left : Option (List ℕ)) (files : Option FilesState) (answer : Result (List ℕ) Refusal)
+    → responds request (content_of (origin_of request) left files) answer → called (before_of (settings request) left files) answer
+unfolding called
+called_settings request left files (Ok text) responded = (request, refl, responded)
+called_settings request left files (Err refusal) responded = inr (request, refl, responded)
 
--- what comes of data is never "not read"
-comes_not_read : (request : Request) (raw : List ℕ) (cause : Cause) (detail : List ℕ) → Comes request raw (refused cause detail) → number_of cause ≡ 10 → ⊥
-comes_not_read request raw cause detail (early other _ differs is) ten = differs (sym (ap response_number is) ∙ ten)
-comes_not_read request raw NoFit detail (aztec bytes of few) ten = cc
-comes_not_read request raw Usage detail (aztec bytes of few) ten = few
-comes_not_read request raw TooLong detail (aztec bytes of few) ten = few
-comes_not_read request raw BadData detail (aztec bytes of few) ten = few
-comes_not_read request raw BadOption detail (aztec bytes of few) ten = few
-comes_not_read request raw ReadFault detail (aztec bytes of few) ten = few
-comes_not_read request raw cause detail (rune value asked shows) ten = shows
+-- no refusal has the status of an input that was not read
+refusal_not_ten : (refusal : Refusal) → refusal_status refusal ≡ 10 → ⊥
+refusal_not_ten Usage ten = cc
+refusal_not_ten (TooLong limit unit) ten = cc
+refusal_not_ten (BadData kind place) ten = cc
+refusal_not_ten (BadCheck given place wanted) ten = cc
+refusal_not_ten (BadOption text) ten = cc
+refusal_not_ten (NoFit misfit) ten = cc
 
-answers_not_read : (request : Request) (raw : List ℕ) (cause : Cause) (detail : List ℕ) → Answers request raw (refused cause detail) → number_of cause ≡ 10 → ⊥
-answers_not_read request raw cause detail answered = comes_not_read request raw cause detail (come_answers request raw (refused cause detail) answered)
-
--- a response of "not read" comes of a content that is missing
-responds_unread : (request : Request) (content : Content) (cause : Cause) (detail : List ℕ) → Responds request content (refused cause detail) → number_of cause ≡ 10 → content ≡ missing
-unfolding Responds
-responds_unread request (known raw) cause detail responds is = absurd (answers_not_read request raw cause detail responds is)
-responds_unread request missing cause detail responds is = refl
-responds_unread request untold cause detail responds is = absurd (answers_not_read request responds.0 cause detail responds.1 is)
+-- no refusal has the status of an output that was not written
+refusal_not_twelve : (refusal : Refusal) → refusal_status refusal ≡ 12 → ⊥
+refusal_not_twelve Usage twelve = cc
+refusal_not_twelve (TooLong limit unit) twelve = cc
+refusal_not_twelve (BadData kind place) twelve = cc
+refusal_not_twelve (BadCheck given place wanted) twelve = cc
+refusal_not_twelve (BadOption text) twelve = cc
+refusal_not_twelve (NoFit misfit) twelve = cc
 
 -- why the input was not read
 pub reading_unanswered : (request : Request) (left : Option (List ℕ)) (files : Option FilesState) (input_faulted files_faulted : Type 0) (f : Fault)
-    → IsFaultOf (IsUnanswered request (content_of request.origin left files) (ReadFaulted request.origin input_faulted files_faulted)) f
-    → status_in f ≡ 10 → ReadFails (settings request) left files input_faulted files_faulted
-reading_unanswered request left files a b fault.NoMemory why is = cc
-reading_unanswered request left files a b (fault.Refused cause detail) (inl responds) is = inl (responds_unread request (content_of request.origin left files) cause detail.items responds is)
-reading_unanswered request left files a b (fault.Refused cause detail) (inr (rose, unread_is)) is = inr rose
+    → IsUnanswered request (content_of (origin_of request) left files) (ReadFaulted (origin_of request) input_faulted files_faulted) f
+    → status_of f ≡ 10 → ReadFails (before_of (settings request) left files) input_faulted files_faulted
+reading_unanswered request left files a b NoMemory why is = cc
+reading_unanswered request left files a b Unread why is = why
+reading_unanswered request left files a b Unwritten why is = absurd why
+reading_unanswered request left files a b (Refused refusal) why is = absurd (refusal_not_ten refusal is)
 
--- the status where the command takes no such words
-pub status_usage : (outcome : Outcome) (left : Option (List ℕ)) (files : Option FilesState) (status : ℕ) → outcome ≡ usage → status ≡ 1 → HasStatus outcome left files status
-status_usage outcome left files status is one =
-    inr (inr (record {
-      response = refused Usage (codes "usage");
-      responds = subst (λ o. RespondsTo o left files (refused Usage (codes "usage"))) (sym is) refl;
-      ends = one;
-    }))
+-- a fault that leaves a request unanswered is none of writing
+pub not_twelve_unanswered : (request : Request) (left : Option (List ℕ)) (files : Option FilesState) (faulted : Type 0) (f : Fault)
+    → IsUnanswered request (content_of (origin_of request) left files) faulted f → status_of f ≡ 12 → ⊥
+not_twelve_unanswered request left files faulted NoMemory why is = cc
+not_twelve_unanswered request left files faulted Unread why is = cc
+not_twelve_unanswered request left files faulted Unwritten why is = why
+not_twelve_unanswered request left files faulted (Refused refusal) why is = refusal_not_twelve refusal is
 
--- the status where a rule on the options is broken
-pub status_option : (outcome : Outcome) (left : Option (List ℕ)) (files : Option FilesState) (status : ℕ) (detail : List ℕ) → outcome ≡ bad_option detail → status ≡ 8 → HasStatus outcome left files status
-status_option outcome left files status detail is eight =
-    inr (inr (record {
-      response = refused BadOption detail;
-      responds = subst (λ o. RespondsTo o left files (refused BadOption detail)) (sym is) refl;
-      ends = eight;
-    }))
+-- nor is one of words that ask for nothing
+pub not_twelve_words : (outcome : Outcome) (f : Fault) → Refuses (asked outcome) f → status_of f ≡ 12 → ⊥
+not_twelve_words outcome NoMemory refused is = cc
+not_twelve_words outcome Unread refused is = refused
+not_twelve_words outcome Unwritten refused is = refused
+not_twelve_words outcome (Refused refusal) refused is = refusal_not_twelve refusal is
+
+-- nor of reading
+pub not_ten_words : (outcome : Outcome) (f : Fault) → Refuses (asked outcome) f → status_of f ≡ 10 → ⊥
+not_ten_words outcome NoMemory refused is = cc
+not_ten_words outcome Unread refused is = refused
+not_ten_words outcome Unwritten refused is = refused
+not_ten_words outcome (Refused refusal) refused is = refusal_not_ten refusal is
+
+-- a call may end with a fault that leaves its request unanswered
+pub may_unanswered : (request : Request) (left : Option (List ℕ)) (files : Option FilesState) (faulted : Type 0) (f : Fault)
+    → IsUnanswered request (content_of (origin_of request) left files) faulted f → MayEnd (before_of (settings request) left files) f
+may_unanswered request left files faulted NoMemory why = tt
+may_unanswered request left files faulted Unread why = tt
+may_unanswered request left files faulted Unwritten why = absurd why
+may_unanswered request left files faulted (Refused refusal) responded = called_settings request left files (Err refusal) responded
+
+-- and with a refusal of its words
+pub may_words : (before : CallBefore) (f : Fault) → Refuses (asked before.outcome) f → MayEnd before f
+unfolding called
+may_words before NoMemory refused = tt
+may_words before Unread refused = tt
+may_words before Unwritten refused = absurd refused
+may_words before (Refused refusal) refused = inl refused
+
+-- the status of such an end
+pub has_status : (before : CallBefore) (status : ℕ) (f : Fault) → MayEnd before f → status ≡ status_of f → HasStatus before status
+has_status before status f may is = inr (f, may, is)
+
+-- the line of such an end
+pub ends_with_line : (before : CallBefore) (status : ℕ) (HasLine : Fault → Type 0) (f : Fault) → MayEnd before f → status ≡ status_of f → HasLine f
+    → EndsWithLine before status HasLine
+ends_with_line before status HasLine f may is line = record { fault = f; may = may; status_is = is; line = line }
+
+-- a call that has a text ends with 0, or with an output that was not written
+pub status_text : (before : CallBefore) (text : List ℕ) (status : ℕ) → called before (Ok text) → (status ≡ 0) ⊎ (status ≡ 12) → HasStatus before status
+status_text before text status answered (inl zero) = inl (zero, (text, answered))
+status_text before text status answered (inr twelve) = inr (Unwritten, (text, answered), twelve)
+
+-- and its line is that of such an output
+pub line_text : (before : CallBefore) (text : List ℕ) (status : ℕ) (HasLine : Fault → Type 0) → called before (Ok text) → (status ≡ 0) ⊎ (status ≡ 12)
+    → (status ≡ 12 → HasLine Unwritten) → status ≢ 0 → EndsWithLine before status HasLine
+line_text before text status HasLine answered (inl zero) line some = absurd (some zero)
+line_text before text status HasLine answered (inr twelve) line some = record { fault = Unwritten; may = (text, answered); status_is = twelve; line = line twelve }

@@ -1,9 +1,6 @@
-pub mod Answers
+pub mod Call
 pub mod Content
-pub mod Drawn
-pub mod DrawingText
 pub mod Effects
-pub mod NamedFile
-pub mod Outcome
-pub mod Response
-pub mod Rune
+pub mod Ending
+pub mod Headline
+pub mod OutputText

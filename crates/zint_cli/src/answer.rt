@@ -1,45 +1,71 @@
-//! From settings and the input that they name to the drawing.
-ghost use Rattle.std.specs.Prelude.{◌≡◌, ◌≤◌, false, true, IfOk, IfErr, OnOk, vec_len};
+//! What is answered to settings, by what they ask for.
+ghost use Rattle.std.specs.Prelude.{◌≡◌, ◌≤◌, false, IfOk, IfErr, OnOk, Ok};
 ghost use Rattle.std.specs.Io.KnownBytes.{IsAtEnd};
 ghost use Rattle.bar_base.specs.Faults.{Rose};
 ghost use Rattle.bar_base.specs.Files.{left_of};
-ghost use Rattle.zint_words.specs.Settings.{origin_text, request_of};
-ghost use Rattle.zint_words.specs.Values.{is_built_symbol};
-ghost use Rattle.zint_cli.specs.Answers.{Responds};
+ghost use Rattle.zint_words.specs.Settings.{drawing_in, origin_in, request_in};
+ghost use Rattle.zint_words.specs.Settings.{drawing as drawing_request};
+ghost use Rattle.zint_cli.specs.Call.{IsUnanswered, origin_of, responds};
 ghost use Rattle.zint_cli.specs.Content.{HasEnded, ReadFaulted, content_of, names_standard};
-ghost use Rattle.zint_cli.specs.DrawingText.{text_of};
-ghost use Rattle.zint_cli.specs.Effects.{IsUnanswered};
-ghost use Rattle.zint_cli.specs.NamedFile.{SameFiles};
-ghost use Rattle.zint_cli.specs.Response.{IsFaultOf, shown};
+ghost use Rattle.zint_cli.specs.OutputText.{output_text};
+ghost use Rattle.bar_base.specs.Files.{SameFiles};
 
 use crate::content::take_content;
-use crate::data_answer::answer_raw;
-use crate::drawing::Drawing;
-use crate::fault::Fault;
+use crate::output::{Output, shown_in};
 use bar_base::{Files, Source};
 use std::alloc::Global;
-use zint_words::Settings;
+use zint_draw::draw;
+use zint_texts::Fault;
+use zint_words::{DrawingSettings, Settings};
 
-/// The drawing that the settings ask for, of the input that they name. All memory is taken here, and every refusal but that of a write
+/// The output that the settings ask for, of the input that they name. All memory is taken here, and every refusal but that of a write
 /// is decided here; the output is not touched.
-#[tactic(auto, using(crate::proofs::AnswerLemmas::answering))]
 pub fn answer<I: Source, F: Files>(
     alloc: Global,
     settings: &Settings<'_>,
     input: &mut I,
     files: &mut F,
-) -> Result<Drawing, Fault>
-    requires { is_built_symbol settings.now.symbol ≡ true }
-    ensures drawn { IfOk result (λ drawing. Responds (request_of settings.now) (content_of (origin_text settings.now.origin) (I.left input.old) (F.state files.old)) (shown (text_of drawing))) }
-    ensures refused { IfErr result (IsFaultOf (IsUnanswered (request_of settings.now) (content_of (origin_text settings.now.origin) (I.left input.old) (F.state files.old))
-        (ReadFaulted (origin_text settings.now.origin) (Rose (I.faults input.old) (I.faults input.new)) (Rose (F.reading_faults files.old) (F.reading_faults files.new))))) }
-    ensures ended { OnOk result (HasEnded (origin_text settings.now.origin) (IsAtEnd (I.left input.new)) (IsAtEnd (left_of (F.state files.new)))) }
-    ensures input_kept { names_standard (origin_text settings.now.origin) ≡ false → input.new ≡ input.old }
+) -> Result<Output, Fault>
+    ensures given { IfOk result (λ output. responds (request_in settings.now)
+        (content_of (origin_of (request_in settings.now)) (I.left input.old) (F.state files.old))
+        (Ok (output_text output))) }
+    ensures refused { IfErr result (IsUnanswered (request_in settings.now)
+        (content_of (origin_of (request_in settings.now)) (I.left input.old) (F.state files.old))
+        (ReadFaulted (origin_of (request_in settings.now)) (Rose (I.faults input.old) (I.faults input.new))
+        (Rose (F.reading_faults files.old) (F.reading_faults files.new)))) }
+    ensures ended { OnOk result (HasEnded (origin_of (request_in settings.now))
+        (IsAtEnd (I.left input.new)) (IsAtEnd (left_of (F.state files.new)))) }
+    ensures input_kept { names_standard (origin_of (request_in settings.now)) ≡ false → input.new ≡ input.old }
     ensures same_files { SameFiles (F.state files.old) (F.state files.new) }
     ensures writing_count { F.writing_faults files.new ≡ F.writing_faults files.old }
 {
-    match take_content(alloc, settings.origin, input, files) {
-        Ok(bytes) => answer_raw(alloc, settings, &bytes),
-        Err(fault) => Err(fault),
+    match settings {
+        Settings::Drawing(drawing) => answer_drawing(alloc, drawing, input, files),
     }
+}
+
+/// The symbol that is asked for, drawn of the content, in the form that is asked for.
+#[tactic(auto, using(crate::proofs::AnswerLemmas::answering))]
+fn answer_drawing<I: Source, F: Files>(
+    alloc: Global,
+    settings: &DrawingSettings<'_>,
+    input: &mut I,
+    files: &mut F,
+) -> Result<Output, Fault>
+    ensures given { IfOk result (λ output. responds (drawing_request (drawing_in settings.now))
+        (content_of (origin_in settings.now.origin) (I.left input.old) (F.state files.old)) (Ok (output_text output))) }
+    ensures refused { IfErr result (IsUnanswered (drawing_request (drawing_in settings.now))
+        (content_of (origin_in settings.now.origin) (I.left input.old) (F.state files.old))
+        (ReadFaulted (origin_in settings.now.origin) (Rose (I.faults input.old) (I.faults input.new))
+        (Rose (F.reading_faults files.old) (F.reading_faults files.new)))) }
+    ensures ended { OnOk result (HasEnded (origin_in settings.now.origin)
+        (IsAtEnd (I.left input.new)) (IsAtEnd (left_of (F.state files.new)))) }
+    ensures input_kept { names_standard (origin_in settings.now.origin) ≡ false → input.new ≡ input.old }
+    ensures same_files { SameFiles (F.state files.old) (F.state files.new) }
+    ensures writing_count { F.writing_faults files.new ≡ F.writing_faults files.old }
+{
+    let raw = take_content(alloc, settings.origin, input, files)?;
+    let symbol = draw(alloc, settings, raw)?;
+    let output = shown_in(alloc, settings.options.form, symbol)?;
+    Ok(output)
 }

@@ -4,50 +4,32 @@ ghost use Rattle.std.specs.Option.{option_map};
 ghost use Rattle.std.specs.Io.KnownBytes.{IsAtEnd};
 ghost use Rattle.bar_base.specs.Faults.{Rose};
 ghost use Rattle.bar_base.specs.Files.{beside_left, left_of};
-ghost use Rattle.zint_words.specs.Settings.{origin_text};
-ghost use Rattle.zint_cli.specs.Content.{HasEnded, IsContent, IsUntaken, ReadFaulted, content_of, named_content, names_standard, told_content, too_long, unread};
+ghost use Rattle.bar_base.specs.Limits.{most_bytes};
+ghost use Rattle.zint_words.specs.Settings.{origin_in};
+ghost use Rattle.zint_cli.specs.Content.{HasEnded, IsContent, IsUntaken, ReadFaulted, content_of, named_content, names_standard, content_left};
 ghost use Rattle.zint_cli.specs.Content.{known};
-ghost use Rattle.zint_cli.specs.NamedFile.{SameFiles};
-ghost use Rattle.zint_cli.specs.Response.{IsFaultOf};
+ghost use Rattle.bar_base.specs.Files.{SameFiles};
 
-use crate::fault::Fault;
-use crate::status::Cause;
-use bar_base::{FileSource, Files, Source, TakeFault, read_all};
+use bar_base::{FileSource, Files, MOST_BYTES, Source, TakeFault, read_all};
 use std::alloc::Global;
-use zint_texts::{Unit, limit_detail};
+use zint_texts::{Fault, Refusal, Unit};
 use zint_words::Origin;
 
-/// The most bytes of data.
-const MOST_BYTES: usize = 65_536;
-
 /// The data is longer than its limit.
-fn too_long(alloc: Global) -> Fault
-    ensures { IsFaultOf (λ response. response ≡ too_long) result }
+fn too_long() -> Fault
+    ensures { result ≡ Fault.Refused (Refusal.TooLong most_bytes Unit.Bytes) }
 {
-    match limit_detail(alloc, MOST_BYTES as u64, Unit::Bytes) {
-        Ok(detail) => Fault::Refused(Cause::TooLong, detail),
-        Err(_) => Fault::NoMemory,
-    }
-}
-
-/// The input was not read.
-fn unread(alloc: Global) -> Fault
-    ensures { IsFaultOf (λ response. response ≡ unread) result }
-{
-    match Vec::from_slice(alloc, b"read") {
-        Ok(detail) => Fault::Refused(Cause::ReadFault, detail),
-        Err(_) => Fault::NoMemory,
-    }
+    Fault::Refused(Refusal::TooLong(MOST_BYTES as u64, Unit::Bytes))
 }
 
 /// The bytes of a text, at most 65,536.
 fn take_text(alloc: Global, text: &str) -> Result<Vec<u8>, Fault>
     ensures taken { IfOk result (λ bytes. IsContent (known text.now) bytes.items) }
-    ensures within { IfOk result (λ bytes. vec_len bytes ≤ 65536) }
-    ensures refused { IfErr result (IsFaultOf (IsUntaken (known text.now) ⊥)) }
+    ensures within { IfOk result (λ bytes. vec_len bytes ≤ most_bytes) }
+    ensures refused { IfErr result (IsUntaken (known text.now) ⊥) }
 {
     if text.len() > MOST_BYTES {
-        return Err(too_long(alloc));
+        return Err(too_long());
     }
     match Vec::from_slice(alloc, text.as_bytes()) {
         Ok(bytes) => Ok(bytes),
@@ -58,27 +40,30 @@ fn take_text(alloc: Global, text: &str) -> Result<Vec<u8>, Fault>
 /// All that is left of a source, at most 65,536 bytes, read to its end.
 #[tactic(auto, using(crate::proofs::ContentLemmas::reading))]
 fn take_from<S: Source>(alloc: Global, source: &mut S) -> Result<Vec<u8>, Fault>
-    ensures taken { IfOk result (λ bytes. IsContent (told_content (S.left source.old)) bytes.items) }
-    ensures within { IfOk result (λ bytes. vec_len bytes ≤ 65536) }
+    ensures taken { IfOk result (λ bytes. IsContent (content_left (S.left source.old)) bytes.items) }
+    ensures within { IfOk result (λ bytes. vec_len bytes ≤ most_bytes) }
     ensures ended { OnOk result (IsAtEnd (S.left source.new)) }
-    ensures refused { IfErr result (IsFaultOf (IsUntaken (told_content (S.left source.old)) (Rose (S.faults source.old) (S.faults source.new)))) }
+    ensures refused { IfErr result
+        (IsUntaken (content_left (S.left source.old)) (Rose (S.faults source.old) (S.faults source.new))) }
     ensures later { S.faults source.old ≤ S.faults source.new }
     ensures rest { S.rest source.new ≡ S.rest source.old }
 {
     match read_all(alloc, source, MOST_BYTES, MOST_BYTES) {
         Ok(bytes) => Ok(bytes),
         Err(TakeFault::NoMemory) => Err(Fault::NoMemory),
-        Err(TakeFault::Failed) => Err(unread(alloc)),
-        Err(TakeFault::TooLong(_)) => Err(too_long(alloc)),
+        Err(TakeFault::Failed) => Err(Fault::Unread),
+        Err(TakeFault::TooLong(_)) => Err(too_long()),
     }
 }
 
 /// All that is left of the file that is being read, at most 65,536 bytes, read to its end.
 fn take_open<F: Files>(alloc: Global, files: &mut F) -> Result<Vec<u8>, Fault>
-    ensures taken { IfOk result (λ bytes. IsContent (told_content (left_of (F.state files.old))) bytes.items) }
-    ensures within { IfOk result (λ bytes. vec_len bytes ≤ 65536) }
+    ensures taken { IfOk result (λ bytes. IsContent (content_left (left_of (F.state files.old))) bytes.items) }
+    ensures within { IfOk result (λ bytes. vec_len bytes ≤ most_bytes) }
     ensures ended { OnOk result (IsAtEnd (left_of (F.state files.new))) }
-    ensures refused { IfErr result (IsFaultOf (IsUntaken (told_content (left_of (F.state files.old))) (Rose (F.reading_faults files.old) (F.reading_faults files.new)))) }
+    ensures refused { IfErr result
+        (IsUntaken (content_left (left_of (F.state files.old)))
+        (Rose (F.reading_faults files.old) (F.reading_faults files.new))) }
     ensures later { F.reading_faults files.old ≤ F.reading_faults files.new }
     ensures beside { option_map beside_left (F.state files.new) ≡ option_map beside_left (F.state files.old) }
     ensures writing_count { F.writing_faults files.new ≡ F.writing_faults files.old }
@@ -91,14 +76,16 @@ fn take_open<F: Files>(alloc: Global, files: &mut F) -> Result<Vec<u8>, Fault>
 #[tactic(auto, using(crate::proofs::ContentLemmas::opening))]
 fn take_file<F: Files>(alloc: Global, name: &str, files: &mut F) -> Result<Vec<u8>, Fault>
     ensures taken { IfOk result (λ bytes. IsContent (named_content name.now (F.state files.old)) bytes.items) }
-    ensures within { IfOk result (λ bytes. vec_len bytes ≤ 65536) }
+    ensures within { IfOk result (λ bytes. vec_len bytes ≤ most_bytes) }
     ensures ended { OnOk result (IsAtEnd (left_of (F.state files.new))) }
-    ensures refused { IfErr result (IsFaultOf (IsUntaken (named_content name.now (F.state files.old)) (Rose (F.reading_faults files.old) (F.reading_faults files.new)))) }
+    ensures refused { IfErr result
+        (IsUntaken (named_content name.now (F.state files.old))
+        (Rose (F.reading_faults files.old) (F.reading_faults files.new))) }
     ensures same_files { SameFiles (F.state files.old) (F.state files.new) }
     ensures writing_count { F.writing_faults files.new ≡ F.writing_faults files.old }
 {
     if files.open_read(name).is_err() {
-        return Err(unread(alloc));
+        return Err(Fault::Unread);
     }
     take_open(alloc, files)
 }
@@ -111,12 +98,16 @@ pub fn take_content<I: Source, F: Files>(
     input: &mut I,
     files: &mut F,
 ) -> Result<Vec<u8>, Fault>
-    ensures taken { IfOk result (λ bytes. IsContent (content_of (origin_text origin.entry) (I.left input.old) (F.state files.old)) bytes.items) }
-    ensures within { IfOk result (λ bytes. vec_len bytes ≤ 65536) }
-    ensures refused { IfErr result (IsFaultOf (IsUntaken (content_of (origin_text origin.entry) (I.left input.old) (F.state files.old))
-        (ReadFaulted (origin_text origin.entry) (Rose (I.faults input.old) (I.faults input.new)) (Rose (F.reading_faults files.old) (F.reading_faults files.new))))) }
-    ensures ended { OnOk result (HasEnded (origin_text origin.entry) (IsAtEnd (I.left input.new)) (IsAtEnd (left_of (F.state files.new)))) }
-    ensures input_kept { names_standard (origin_text origin.entry) ≡ false → input.new ≡ input.old }
+    ensures taken { IfOk result
+        (λ bytes. IsContent (content_of (origin_in origin.entry) (I.left input.old) (F.state files.old)) bytes.items) }
+    ensures within { IfOk result (λ bytes. vec_len bytes ≤ most_bytes) }
+    ensures refused { IfErr result
+        (IsUntaken (content_of (origin_in origin.entry) (I.left input.old) (F.state files.old))
+        (ReadFaulted (origin_in origin.entry) (Rose (I.faults input.old) (I.faults input.new))
+        (Rose (F.reading_faults files.old) (F.reading_faults files.new)))) }
+    ensures ended { OnOk result
+        (HasEnded (origin_in origin.entry) (IsAtEnd (I.left input.new)) (IsAtEnd (left_of (F.state files.new)))) }
+    ensures input_kept { names_standard (origin_in origin.entry) ≡ false → input.new ≡ input.old }
     ensures same_files { SameFiles (F.state files.old) (F.state files.new) }
     ensures writing_count { F.writing_faults files.new ≡ F.writing_faults files.old }
 {

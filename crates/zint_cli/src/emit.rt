@@ -1,62 +1,69 @@
-//! Where a drawing is written: to standard output, or to a file of a name.
+//! Where the output is written: to standard output, or to a file of a name.
 ghost use Rattle.std.specs.Prelude.{◌≡◌, IsSome, OnOk, OnErr};
 ghost use Rattle.std.specs.Option.{option_map};
 ghost use Rattle.std.specs.Io.KnownBytes.{Appends, IsAtEnd};
 ghost use Rattle.bar_base.specs.Faults.{HasCause, Rose};
 ghost use Rattle.bar_base.specs.Files.{beside_held, held_of, left_of};
 ghost use Rattle.bar_base.specs.Outside.{AppendsPrefix};
-ghost use Rattle.zint_cli.specs.DrawingText.{text_of};
-ghost use Rattle.zint_cli.specs.Effects.{IsWritten, IsWrittenPart, WriteFaulted};
-ghost use Rattle.zint_cli.specs.NamedFile.{HoldsFile, HoldsPart};
+ghost use Rattle.zint_cli.specs.OutputText.{output_text};
+ghost use Rattle.zint_cli.specs.Effects.{HoldsText, HoldsTextPart, WriteFaulted, after};
+ghost use Rattle.bar_base.specs.Files.{HoldsFile, HoldsPart};
 
-use crate::drawing::{Drawing, write_drawing};
+use crate::output::{Output, write_output};
 use bar_base::{Failed, FileSink, Files, Sink};
 
-/// Writes the drawing to the file that is being written.
-fn write_open<F: Files>(files: &mut F, drawing: &Drawing) -> Result<(), Failed>
-    ensures whole { OnOk result (Appends (held_of (F.state files.old)) (held_of (F.state files.new)) (text_of drawing.now)) }
-    ensures part { OnErr result (AppendsPrefix (held_of (F.state files.old)) (held_of (F.state files.new)) (text_of drawing.now)) }
+/// Writes the output to the file that is being written.
+fn write_open<F: Files>(files: &mut F, output: &Output) -> Result<(), Failed>
+    ensures whole { OnOk result
+        (Appends (held_of (F.state files.old)) (held_of (F.state files.new)) (output_text output.now)) }
+    ensures part { OnErr result
+        (AppendsPrefix (held_of (F.state files.old)) (held_of (F.state files.new)) (output_text output.now)) }
     ensures beside { option_map beside_held (F.state files.new) ≡ option_map beside_held (F.state files.old) }
     ensures cause { HasCause (F.writing_faults files.old) (F.writing_faults files.new) result }
     ensures reading_count { F.reading_faults files.new ≡ F.reading_faults files.old }
     ensures ended { IsAtEnd (left_of (F.state files.old)) → IsAtEnd (left_of (F.state files.new)) }
 {
     let mut sink = FileSink::new(files);
-    write_drawing(&mut sink, drawing)
+    write_output(&mut sink, output)
 }
 
-/// Makes the file of this name, or empties it, and writes the drawing to it. `Failed` leaves the files as they were or a prefix in this
+/// Makes the file of this name, or empties it, and writes the output to it. `Failed` leaves the files as they were or a prefix in this
 /// one alone, and is answered only where a fault was counted.
-#[tactic(auto, using(crate::proofs::FileLemmas::held))]
-pub fn write_file<F: Files>(files: &mut F, name: &str, drawing: &Drawing) -> Result<(), Failed>
-    ensures whole { OnOk result (HoldsFile name.now (text_of drawing.now) (F.state files.old) (F.state files.new)) }
-    ensures part { OnErr result (HoldsPart name.now (text_of drawing.now) (F.state files.old) (F.state files.new)) }
+#[tactic(auto, using(bar_base::proofs::NamedFile::named_file))]
+pub fn write_file<F: Files>(files: &mut F, name: &str, output: &Output) -> Result<(), Failed>
+    ensures whole { OnOk result (HoldsFile name.now (output_text output.now) (F.state files.old) (F.state files.new)) }
+    ensures part { OnErr result (HoldsPart name.now (output_text output.now) (F.state files.old) (F.state files.new)) }
     ensures cause { HasCause (F.writing_faults files.old) (F.writing_faults files.new) result }
     ensures reading_count { F.reading_faults files.new ≡ F.reading_faults files.old }
     ensures ended { IsAtEnd (left_of (F.state files.old)) → IsAtEnd (left_of (F.state files.new)) }
 {
     files.create(name)?;
-    write_open(files, drawing)?;
+    write_open(files, output)?;
     Ok(())
 }
 
-/// Writes the drawing to the file of the name, or to standard output where there is none. `Failed` has written a prefix, and is answered
+/// Writes the output to the file of the name, or to standard output where there is none. `Failed` has written a prefix, and is answered
 /// only where a fault was counted.
 pub fn emit<F: Files, O: Sink>(
-    output: Option<&str>,
-    drawing: &Drawing,
+    name: Option<&str>,
+    output: &Output,
     files: &mut F,
     out: &mut O,
 ) -> Result<(), Failed>
-    ensures whole { OnOk result (IsWritten (option_map (λ name. name.now) output.entry) (text_of drawing.now) (O.held out.old) (O.held out.new) (F.state files.old) (F.state files.new)) }
-    ensures part { OnErr result (IsWrittenPart (option_map (λ name. name.now) output.entry) (text_of drawing.now) (O.held out.old) (O.held out.new) (F.state files.old) (F.state files.new)) }
-    ensures cause { OnErr result (WriteFaulted (option_map (λ name. name.now) output.entry) (Rose (O.faults out.old) (O.faults out.new)) (Rose (F.writing_faults files.old) (F.writing_faults files.new))) }
-    ensures out_kept { IsSome output.entry → out.new ≡ out.old }
+    ensures whole { OnOk result
+        (HoldsText (after (O.held out.old) (O.held out.new) (F.state files.old) (F.state files.new))
+        (option_map (λ name. name.now) name.entry) (output_text output.now)) }
+    ensures part { OnErr result
+        (HoldsTextPart (after (O.held out.old) (O.held out.new) (F.state files.old) (F.state files.new))
+        (option_map (λ name. name.now) name.entry) (output_text output.now)) }
+    ensures cause { OnErr result (WriteFaulted (option_map (λ name. name.now) name.entry)
+        (Rose (O.faults out.old) (O.faults out.new)) (Rose (F.writing_faults files.old) (F.writing_faults files.new))) }
+    ensures out_kept { IsSome name.entry → out.new ≡ out.old }
     ensures reading_count { F.reading_faults files.new ≡ F.reading_faults files.old }
     ensures ended { IsAtEnd (left_of (F.state files.old)) → IsAtEnd (left_of (F.state files.new)) }
 {
-    match output {
-        Some(name) => write_file(files, name, drawing),
-        None => write_drawing(out, drawing),
+    match name {
+        Some(name) => write_file(files, name, output),
+        None => write_output(out, output),
     }
 }

@@ -2,19 +2,14 @@
 #![tactic(auto)]
 
 mod answer;
+mod asking;
 mod call;
 mod content;
-mod data_answer;
-mod drawing;
 mod emit;
-mod fault;
-mod rune;
-mod status;
-mod symbols;
+mod output;
 mod tell;
 
 pub use call::run;
-pub use status::{Cause, NO_MEMORY, OK, WRITE_FAULT};
 
 #[cfg(test)]
 mod tests;

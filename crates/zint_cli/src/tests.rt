@@ -1,6 +1,7 @@
 //! Whole calls over objects in memory: what a failing outside leaves.
 use crate::run;
-use bar_base::{MemoryFiles, MemorySink, MemorySource, NoMemory};
+use bar_base::NoMemory;
+use bar_memory::{MemoryFiles, MemorySink, MemorySource};
 use std::alloc::{AllocError, Global};
 use std::test::Fail;
 
@@ -74,41 +75,39 @@ fn draws_and_refuses_runes(rt: HostRuntime) -> Result<(), Fail> {
     Ok(())
 }
 
+/// The report of `Code 2D!`: the lines before the grid in one write, and the grid in another.
+const HEAD: &str =
+    "symbol=92\nbits=56\nspelling=00100111001000000101001101111000010100111100101000000110\nsize=compact 1\nside=15\ncodewords=10+7\ngrid:\n";
+
+const GRID: &str =
+    "000110001100000\n000000110000010\n101100001000101\n011111111111100\n111100000001101\n000101111101100\n100101000101111\n001101010101001\n001101000101010\n010101111101001\n100100000001011\n100111111111101\n010001100010010\n011000011011010\n111001101100000\n";
+
 #[test]
-fn a_failing_output_leaves_a_prefix(rt: HostRuntime) -> Result<(), Fail> {
-    let fails = Fails { out: &[2], ..NONE };
-    let left = call(rt.alloc(), &["-b", "128", "-d", "0"], b"", &fails)?;
+fn each_failing_write_leaves_a_prefix(rt: HostRuntime) -> Result<(), Fail> {
+    let words = ["-b", "92", "-d", "Code 2D!", "--filetype=report"];
+    let first = Fails { out: &[1], ..NONE };
+    let left = call(rt.alloc(), &words, b"", &first)?;
     assert_eq!(rt; left.status, 12);
-    assert_eq!(rt; left.out.bytes(), b"11101010101\n".as_slice());
+    assert!(rt; left.out.bytes().is_empty());
+    let second = Fails { out: &[2], ..NONE };
+    let left = call(rt.alloc(), &words, b"", &second)?;
+    assert_eq!(rt; left.status, 12);
+    assert_eq!(rt; left.out.bytes(), HEAD.as_bytes());
     assert_eq!(rt; left.err.bytes(), b"error 12: write\n".as_slice());
+    let left = call(rt.alloc(), &words, b"", &NONE)?;
+    assert_eq!(rt; left.status, 0);
+    assert!(rt; left.out.bytes().starts_with(HEAD.as_bytes()));
+    assert!(rt; left.out.bytes().ends_with(GRID.as_bytes()));
+    assert_eq!(rt; left.out.bytes().len(), HEAD.len() + GRID.len());
+    Ok(())
+}
+
+#[test]
+fn a_failing_line_leaves_the_status(rt: HostRuntime) -> Result<(), Fail> {
     let fails = Fails { err: &[1], ..NONE };
     let left = call(rt.alloc(), &["-b", "128", "-d", "256"], b"", &fails)?;
     assert_eq!(rt; left.status, 6);
     assert!(rt; left.err.bytes().is_empty());
-    Ok(())
-}
-
-/// The report of `Code 2D!`: seven lines in one write, and a write for each of the 15 lines of the grid.
-const REPORT: &str =
-    "symbol=92\nbits=56\nspelling=00100111001000000101001101111000010100111100101000000110\nsize=compact 1\nside=15\ncodewords=10+7\ngrid:\n000110001100000\n000000110000010\n101100001000101\n011111111111100\n111100000001101\n000101111101100\n100101000101111\n001101010101001\n001101000101010\n010101111101001\n100100000001011\n100111111111101\n010001100010010\n011000011011010\n111001101100000\n";
-
-#[test]
-fn each_failing_write_leaves_a_prefix(rt: HostRuntime) -> Result<(), Fail> {
-    for write in 1..17 {
-        let fails = Fails {
-            out: &[write],
-            ..NONE
-        };
-        let words = ["-b", "92", "-d", "Code 2D!", "--filetype=report"];
-        let left = call(rt.alloc(), &words, b"", &fails)?;
-        assert_eq!(rt; left.status, 12);
-        assert!(rt; REPORT.as_bytes().starts_with(left.out.bytes()));
-        assert!(rt; left.out.bytes().len() < REPORT.len());
-    }
-    let words = ["-b", "92", "-d", "Code 2D!", "--filetype=report"];
-    let left = call(rt.alloc(), &words, b"", &NONE)?;
-    assert_eq!(rt; left.status, 0);
-    assert_eq!(rt; left.out.bytes(), REPORT.as_bytes());
     Ok(())
 }
 

@@ -4,18 +4,18 @@
 use bar_base::{StdFiles, StdSink, StdSource};
 use std::process::ExitCode;
 use std::{env, io};
-use zint_cli::{NO_MEMORY, run};
+use zint_cli::run;
+use zint_texts::{Fault, Refusal};
 
-/// The status where the list of words can't be had for another cause than memory, as a word that isn't UTF-8.
-const NO_WORDS: u8 = 1;
-
+/// Ends with the status of what the call answers. Where the list of words cannot be read, it writes nothing and ends as for want of
+/// memory, or, for another cause such as a word that is not UTF-8, as for words that the command does not take.
 fn main(rt: HostRuntime) -> ExitCode {
     let words: Vec<String> = match env::args(&rt).and_then(|args| Ok(args.collect(rt.alloc())?)) {
         Ok(words) => words,
         Err(error) if error.kind() == io::ErrorKind::OutOfMemory => return ExitCode::from(
-            NO_MEMORY,
+            Fault::NoMemory.status(),
         ),
-        Err(_) => return ExitCode::from(NO_WORDS),
+        Err(_) => return ExitCode::from(Refusal::Usage.status()),
     };
     let mut input = StdSource::new(rt.stdin());
     let mut files = StdFiles::new(rt);

@@ -1,8 +1,0 @@
-use Rattle.std.proofs.Common.{◌≡◌, ◌<◌, ◌^◌, drop}
-use Rattle.std.specs.Str.Parse.{digits_value, digits_value_after}
-use Rattle.zint_cli.proofs.rune.digits_number.Given as goal
-
--- the digits so far write the number, which has as many digits
-abbrev pub invariant-loop-digit : goal.invariant-loop-digit
-invariant-loop-digit l =
-    (digits_value_after 10 l.number (drop l.digit-index l.digits) ≡ digits_value 10 l.digits) × (l.number < 10 ^ l.digit-index)
