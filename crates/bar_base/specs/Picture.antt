@@ -40,3 +40,10 @@ pub record IsShaped (picture : Picture) : Type 0 where
   pub short : row_count picture ≤ 16384
   pub small : row_count picture * picture.width ≤ 1048576
   pub heights : All (λ height. (1 ≤ height) × (height ≤ 200)) picture.heights
+
+-- A matrix symbol as a picture: at most 151 by 151 modules, each row with the height 1.
+pub record IsMatrixSymbol (picture : Picture) : Type 0 where
+  pub shape : IsShaped picture
+  pub narrow : picture.width ≤ 151
+  pub short : row_count picture ≤ 151
+  pub flat : picture.heights ≡ replicate (row_count picture) 1
