@@ -176,7 +176,9 @@ fn feed_by_rows<F: Field>(
     move_by_rows(tables, exponents, rows, registers, factor);
 }
 
-/// Leaves in the registers, which are zero before, the check elements of a word.
+/// Leaves in the registers, which are zero before, the check elements of a word. It is not inlined, so that a short word does not pay for
+/// the rows on the stack.
+#[inline(never)]
 pub fn divide_by_rows<F: Field>(
     tables: &Tables<F>,
     exponents: &[u16],
