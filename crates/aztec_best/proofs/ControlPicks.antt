@@ -13,7 +13,7 @@ use Rattle.aztec_modes.proofs.Forms.{Form, latch, plain, shift, fnc1, eci, short
 use Rattle.aztec_best.specs.declared.costs.Costs.{Costs}
 use Rattle.aztec_best.specs.Numbers.{pair_of, controls_from}
 use Rattle.aztec_best.specs.Order.{first_number, second_number}
-use Rattle.aztec_best.specs.Picks.{IsCheapest, IsPick, HasRank}
+use Rattle.aztec_best.specs.Picks.{IsCheapest, IsFirstOfKind, HasRank}
 use Rattle.aztec_best.proofs.ByteLaws.{one_at, two_at, pair_few, tail_few}
 use Rattle.aztec_best.proofs.CodeRanks.{data_low, symbol_present, latch_alone}
 use Rattle.aztec_best.proofs.Decided.{latch_fits}
@@ -23,7 +23,7 @@ use Rattle.aztec_best.proofs.Picks.{one_picked, pick_behind, first_at}
 pub latch_picked : (table : List Costs) (es : List Element) (place : ℕ) (m to : Mode) (first : ℕ) (o : Option Code) → table_symbol m first ≡ LatchTo to
     → IfSome o (λ c. (Some (Latch to) ≡ Some c) × IsCheapest table es place m c)
     → IfNone o ((c : Code) → Some (Latch to) ≡ Some c → IsCheapest table es place m c → ⊥)
-    → IsPick table es place m (HasRank m (first * 4096) (first * 4096 + 4096)) o
+    → IsFirstOfKind table es place m (HasRank m (first * 4096) (first * 4096 + 4096)) o
 unfolding first_number second_number
 latch_picked table es place m to first o is found none =
     let number : first ≡ latch_number m to = latch_number-at m to first is in
@@ -60,8 +60,8 @@ form_shift {m} to (long_run number bytes is size low high ok) at some =
     absurd (let here : table_symbol m 31 ≡ Binary = subst (λ (k : ℕ). table_symbol m k ≡ Binary) (binary_at m number is).1 is in cc)
 
 pub shift_control : (table : List Costs) (es : List Element) (place : ℕ) (m to : Mode) (first : ℕ) (o : Option Code) → table_symbol m first ≡ ShiftTo to
-    → controls_from m ≤ first → IsPick table es place m (HasRank m (first * 4096 + 7) (first * 4096 + 4096)) o
-    → IsPick table es place m (HasRank m (first * 4096) (first * 4096 + 4096)) o
+    → controls_from m ≤ first → IsFirstOfKind table es place m (HasRank m (first * 4096 + 7) (first * 4096 + 4096)) o
+    → IsFirstOfKind table es place m (HasRank m (first * 4096) (first * 4096 + 4096)) o
 shift_control table es place m to first o is late pick =
     pick_behind table es place m (first * 4096) (first * 4096 + 7) (first * 4096 + 4096) o (omega arith)
     (λ other cheap (low, high).
@@ -72,7 +72,7 @@ shift_control table es place m to first o is late pick =
 -- No code behind the data codes begins with a number that is Absent, a data code's, or FLG(n)'s.
 pub control_none : (table : List Costs) (es : List Element) (place : ℕ) (m : Mode) (first : ℕ) → controls_from m ≤ first
     → ((table_symbol m first ≡ Absent) ⊎ (((byte : ℕ) × (table_symbol m first ≡ One byte)) ⊎ (((a b : ℕ) × (table_symbol m first ≡ Two a b)) ⊎ (table_symbol m first ≡ Flag))))
-    → IsPick table es place m (HasRank m (first * 4096) (first * 4096 + 4096)) None
+    → IsFirstOfKind table es place m (HasRank m (first * 4096) (first * 4096 + 4096)) None
 control_none table es place m first late kind = λ other cheap (low, high). refused other cheap (first_at first cheap.front low high) kind
   where
     refused : (other : Code) → IsCheapest table es place m other → first_number m other ≡ first

@@ -20,7 +20,7 @@ use Rattle.aztec_best.specs.declared.front.Front.{Front}
 use Rattle.aztec_best.specs.Front.{front_of}
 use Rattle.aztec_best.specs.Numbers.{data_number, own_number, pair_number, pair_of, pair_from, has_pair, is_pair, controls_from}
 use Rattle.aztec_best.specs.Order.{first_number, second_number, code_rank}
-use Rattle.aztec_best.specs.Picks.{IsCheapest, IsPick, HasRank, numbered, data_code, IsDataCode}
+use Rattle.aztec_best.specs.Picks.{IsCheapest, IsFirstOfKind, HasRank, numbered, data_code, IsDataCode}
 use Rattle.aztec_best.proofs.ByteLaws.{number_there, one_at, two_at, two_paired, pair_there, pair_few, data_alone, tail_few}
 use Rattle.aztec_best.proofs.CodeRanks.{data_low, data_few, shift_alone}
 use Rattle.aztec_best.proofs.DataLaws.{DataKind, one, two, data_kind, pair_from-bytes, two_there}
@@ -170,7 +170,7 @@ module _ (table : List Costs) (es : List Element) (place : ℕ) (m : Mode) (sh :
       (some, min_or_max _ _ number own)
 
   -- The first of the two candidates that is cheapest is the pick.
-  data_first : (c : Code) (first : data_code sh least_number ≡ Some c) → IsCheapest table es place m c → IsPick table es place m (IsDataCode sh) (Some c)
+  data_first : (c : Code) (first : data_code sh least_number ≡ Some c) → IsCheapest table es place m c → IsFirstOfKind table es place m (IsDataCode sh) (Some c)
   unfolding least_number greatest_number
   data_first c first cheap =
       let (some, same) = data_code_is sh least_number c first in
@@ -186,7 +186,7 @@ module _ (table : List Costs) (es : List Element) (place : ℕ) (m : Mode) (sh :
 
   data_second : (o : Option Code) → ((c : Code) → data_code sh least_number ≡ Some c → IsCheapest table es place m c → ⊥)
       → IfSome o (λ c. (data_code sh greatest_number ≡ Some c) × IsCheapest table es place m c)
-      → IfNone o ((c : Code) → data_code sh greatest_number ≡ Some c → IsCheapest table es place m c → ⊥) → IsPick table es place m (IsDataCode sh) o
+      → IfNone o ((c : Code) → data_code sh greatest_number ≡ Some c → IsCheapest table es place m c → ⊥) → IsFirstOfKind table es place m (IsDataCode sh) o
   data_second None none found none' = λ other cheap (number, is).
       let (some, at) = either other cheap number is in
       elim at [
@@ -235,8 +235,8 @@ form_plain (eci flag one_low six fits) low high = absurd (omega arith)
 form_plain {m} (short_run number bytes is size one_low high_count ok) low high = absurd (omega (arith, (tail_few m).1))
 form_plain {m} (long_run number bytes is size low_count high_count ok) low high = absurd (omega (arith, (tail_few m).1))
 
-pub plain_pick : (table : List Costs) (es : List Element) (place : ℕ) (m : Mode) (o : Option Code) → IsPick table es place m (IsDataCode None) o
-    → IsPick table es place m (HasRank m 4096 (controls_from m * 4096)) o
+pub plain_pick : (table : List Costs) (es : List Element) (place : ℕ) (m : Mode) (o : Option Code) → IsFirstOfKind table es place m (IsDataCode None) o
+    → IsFirstOfKind table es place m (HasRank m 4096 (controls_from m * 4096)) o
 unfolding first_number second_number
 plain_pick table es place m o pick =
     kind_moved table es place m (IsDataCode None) (HasRank m 4096 (controls_from m * 4096)) o
@@ -249,7 +249,7 @@ plain_pick table es place m o pick =
     (λ c cheap (low, high). form_plain (form_of cheap.front.entry) low high) pick
 
 pub shift_pick : (table : List Costs) (es : List Element) (place : ℕ) (m to : Mode) (first : ℕ) (o : Option Code) → table_symbol m first ≡ ShiftTo to
-    → IsPick table es place m (IsDataCode (Some to)) o → IsPick table es place m (HasRank m (first * 4096 + 7) (first * 4096 + 4096)) o
+    → IsFirstOfKind table es place m (IsDataCode (Some to)) o → IsFirstOfKind table es place m (HasRank m (first * 4096 + 7) (first * 4096 + 4096)) o
 unfolding first_number second_number
 shift_pick table es place m to first o is pick =
     let number_is : first ≡ shift_number m to = shift_number-at m to first is in
@@ -295,13 +295,13 @@ module _ (table : List Costs) (es : List Element) (place : ℕ) (m : Mode) (sh :
     (n_is : n ≡ min (own_number (unwrap_or sh m) (slice_get (drop place es) 0)) (pair_number (unwrap_or sh m) (slice_get (drop place es) 0) (slice_get (drop place es) 1)))
     (k_is : k ≡ max (own_number (unwrap_or sh m) (slice_get (drop place es) 0)) (pair_number (unwrap_or sh m) (slice_get (drop place es) 0) (slice_get (drop place es) 1)))
     (former_is : former ≡ data_code sh n) (latter_is : latter ≡ data_code sh k) where
-  pub former_picked : (c : Code) → (former ≡ Some c) × IsCheapest table es place m c → IsPick table es place m (IsDataCode sh) (Some c)
+  pub former_picked : (c : Code) → (former ≡ Some c) × IsCheapest table es place m c → IsFirstOfKind table es place m (IsDataCode sh) (Some c)
   unfolding least_number
   former_picked c found = data_first table es place m sh c (sym (former_is ∙ ap (data_code sh) n_is) ∙ found.0) found.1
 
   pub latter_picked : (o : Option Code) → ((c : Code) → former ≡ Some c → IsCheapest table es place m c → ⊥)
       → IfSome o (λ c. (latter ≡ Some c) × IsCheapest table es place m c) → IfNone o ((c : Code) → latter ≡ Some c → IsCheapest table es place m c → ⊥)
-      → IsPick table es place m (IsDataCode sh) o
+      → IsFirstOfKind table es place m (IsDataCode sh) o
   unfolding least_number greatest_number
   latter_picked o none found none' =
       data_second table es place m sh o (λ c is cheap. none c (former_is ∙ ap (data_code sh) n_is ∙ is) cheap)

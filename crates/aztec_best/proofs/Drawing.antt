@@ -22,7 +22,7 @@ use Rattle.aztec_best.specs.Bench.{kept_cost, IsFilledFrom}
 use Rattle.aztec_best.specs.DrawnPath.{mark_codes, IsDrawnPath}
 use Rattle.aztec_best.proofs.Order.{Precedes-behind, Precedes-length, Precedes-nil, Precedes-antisym}
 use Rattle.aztec_best.proofs.Small.{stands_within, spellable}
-use Rattle.aztec_best.specs.Picks.{IsNext}
+use Rattle.aztec_best.specs.Picks.{IsFirstCheapest}
 use Rattle.aztec_best.proofs.NextCodes.{next_there, next_cheap, next_first}
 
 -- no bits are the first spelling of no elements
@@ -39,11 +39,11 @@ width_wide Digit = omega arith
 
 module _ (table : List Costs) (es : List Element) (filled : IsFilledFrom table es 0) (valid : All IsElement es) where
   -- the mode and place after it are nearer to the end
-  pub next_nearer : (place : ℕ) (m : Mode) (code : Code) → IsNext table es place m code
+  pub next_nearer : (place : ℕ) (m : Mode) (code : Code) → IsFirstCheapest table es place m code
       → kept_cost table (place + code_count m code) (code_next m code) < kept_cost table place m
   next_nearer place m code next = omega (arith, next_cheap table es filled valid place m code next, cost_positive m code)
 
-  pub next_within : (place : ℕ) (m : Mode) (code : Code) → place ≤ length es → IsNext table es place m code → place + code_count m code ≤ length es
+  pub next_within : (place : ℕ) (m : Mode) (code : Code) → place ≤ length es → IsFirstCheapest table es place m code → place + code_count m code ≤ length es
   next_within place m code within next = stands_within m code es place next.cheapest.front within
 
   first_end : (place : ℕ) (m : Mode) → length es ≤ place → IsFirst m (drop place es) [] []
@@ -71,7 +71,7 @@ module _ (table : List Costs) (es : List Element) (filled : IsFilledFrom table e
       ]
 
   -- the first of the cheapest codes begins it
-  pub next_begins : (place : ℕ) (m : Mode) (code : Code) → place < length es → IsNext table es place m code → BeginsFirst m (drop place es) code
+  pub next_begins : (place : ℕ) (m : Mode) (code : Code) → place < length es → IsFirstCheapest table es place m code → BeginsFirst m (drop place es) code
   next_begins place m code inside next =
       let after = place + code_count m code in
       let (codes, more, first) = firsts (kept_cost table after (code_next m code)) after (code_next m code) (next_within place m code (omega arith) next) (omega arith) in
@@ -178,7 +178,7 @@ path_start front es path valid is = record {
 }
 
 pub path_step : (table : List Costs) (front : List Code) (es : List Element) (path longer : List Code) (m next : Mode) (place later : ℕ) (code : Code) → IsFilledFrom table es 0
-    → IsPathTo front es path m place → place < length es → IsNext table es place m code
+    → IsPathTo front es path m place → place < length es → IsFirstCheapest table es place m code
     → longer ≡ path ++ code ∷ [] → next ≡ code_next m code → later ≡ place + code_count m code → IsPathTo front es longer next later
 path_step table front es path longer m next place later code filled to inside next_code longer_is next_is later_is =
     subst (λ (cs : List Code). IsPathTo front es cs next later) (sym longer_is)
@@ -242,7 +242,7 @@ drawn_path-bits append es path bits valid (codes, own, apart, first) only =
 
 -- the next stand is nearer to the end, and inside the elements
 pub step_nearer : (table : List Costs) (es : List Element) (m : Mode) (place : ℕ) (code : Code) → IsFilledFrom table es 0 → All IsElement es → place ≤ length es
-    → IsNext table es place m code
+    → IsFirstCheapest table es place m code
     → (place + code_count m code ≤ length es) × (kept_cost table (place + code_count m code) (code_next m code) < kept_cost table place m)
 step_nearer table es m place code filled valid within next =
     (next_within table es filled valid place m code within next, next_nearer table es filled valid place m code next)

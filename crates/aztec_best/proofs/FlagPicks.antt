@@ -20,7 +20,7 @@ use Rattle.aztec_best.specs.Bench.{IsFilledFrom}
 use Rattle.aztec_best.specs.Front.{front_of}
 use Rattle.aztec_best.specs.Numbers.{fewest_digits}
 use Rattle.aztec_best.specs.Order.{first_number, second_number, code_rank}
-use Rattle.aztec_best.specs.Picks.{cost_through, IsCheapest, IsPick, HasRank, flag_code}
+use Rattle.aztec_best.specs.Picks.{cost_through, IsCheapest, IsFirstOfKind, HasRank, flag_code}
 use Rattle.aztec_best.proofs.CodeRanks.{data_low}
 use Rattle.aztec_best.proofs.DataLaws.{digits_fit, digits_least}
 use Rattle.aztec_best.proofs.Decided.{fnc1_fits, eci_fits}
@@ -125,7 +125,7 @@ module _ (table : List Costs) (es : List Element) (place : ℕ) (m : Mode) (fill
 
   pub flag_pick : (o : Option Code) → IfSome o (λ c. (flag_code (slice_get (drop place es) 0) ≡ Some c) × IsCheapest table es place m c)
       → IfNone o ((c : Code) → flag_code (slice_get (drop place es) 0) ≡ Some c → IsCheapest table es place m c → ⊥)
-      → IsPick table es place m (HasRank m 0 7) o
+      → IsFirstOfKind table es place m (HasRank m 0 7) o
   flag_pick None found none = λ other cheap (low, high). refused other cheap (flag_form (form_of cheap.front.entry) high)
     where
       refused : (other : Code) → IsCheapest table es place m other → FlagForm other → ⊥
@@ -161,7 +161,7 @@ form_punct (eci flag one_low six fits) punct low high = absurd (omega arith)
 form_punct (short_run number bytes is size one_low many ok) punct low high = absurd (omega arith)
 form_punct (long_run number bytes is size one_low many ok) punct low high = absurd (omega arith)
 
-pub punct_none : (table : List Costs) (es : List Element) (place : ℕ) (m : Mode) → m ≡ Punct → IsPick table es place m (HasRank m 7 4096) None
+pub punct_none : (table : List Costs) (es : List Element) (place : ℕ) (m : Mode) → m ≡ Punct → IsFirstOfKind table es place m (HasRank m 7 4096) None
 punct_none table es place m punct = λ other cheap (low, high). form_punct (form_of cheap.front.entry) punct low high
 
 -- FLG(n) for what is in front spells it.

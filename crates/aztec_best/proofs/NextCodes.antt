@@ -15,7 +15,7 @@ use Rattle.aztec_best.specs.declared.costs.Costs.{Costs}
 use Rattle.aztec_best.specs.Order.{code_rank}
 use Rattle.aztec_best.specs.Shortest.{Precedes, IsLeast, IsFirst}
 use Rattle.aztec_best.specs.Bench.{kept_cost, IsFilledFrom}
-use Rattle.aztec_best.specs.Picks.{cost_through, IsCheapest, IsFirstCode, HasRank, IsNext}
+use Rattle.aztec_best.specs.Picks.{cost_through, IsCheapest, IsFirstCode, HasRank, IsFirstCheapest}
 use Rattle.aztec_best.proofs.Order.{IsBefore-append, Precedes-behind, Precedes-length}
 use Rattle.aztec_best.proofs.CodeRanks.{numbers_few, ordered, ranked, ranked_is, same_rank}
 use Rattle.aztec_best.proofs.Decided.{code_front}
@@ -129,12 +129,12 @@ module _ (table : List Costs) (es : List Element) (filled : IsFilledFrom table e
       elim (below_rank place m bound) [ inl found ↦ found | inr none ↦ absurd (none code cheap (omega arith, below)) ]
 
   -- Before the last element there is a first of the cheapest codes.
-  pub next_there : (place : ℕ) (m : Mode) → place < length es → (code : Code) × IsNext table es place m code
+  pub next_there : (place : ℕ) (m : Mode) → place < length es → (code : Code) × IsFirstCheapest table es place m code
   next_there place m within =
       let (code, cheap) = cheapest_there place m within in
       first_below place m (32 * 4096) code cheap (rank_few cheap.front)
 
-  pub next_cheap : (place : ℕ) (m : Mode) (code : Code) → IsNext table es place m code
+  pub next_cheap : (place : ℕ) (m : Mode) (code : Code) → IsFirstCheapest table es place m code
       → kept_cost table (place + code_count m code) (code_next m code) + code_length m code ≡ kept_cost table place m
   unfolding cost_through
   next_cheap place m code next = omega (arith, next.cheapest.fewest)
@@ -149,7 +149,7 @@ module _ (table : List Costs) (es : List Element) (filled : IsFilledFrom table e
 
   -- The bits of the first code and the first spelling of the rest precede any other spelling that begins with a cheapest code.
   next_before : {next' : Mode} {code' : Code} {bits bits' : List Bool} {spelled spelled' : List Element} (place : ℕ) (m : Mode) (code : Code)
-      (rest rest' : List Element) (codes codes' : List Code) (more more' : List Bool) → IsNext table es place m code
+      (rest rest' : List Element) (codes codes' : List Code) (more more' : List Bool) → IsFirstCheapest table es place m code
       → Entry m code bits spelled (code_next m code) → drop place es ≡ spelled ++ rest → IsFirst (code_next m code) rest codes more
       → Entry m code' bits' spelled' next' → drop place es ≡ spelled' ++ rest' → Spells next' codes' more' rest' → IsCheapest table es place m code'
       → length (bits ++ more) ≡ length (bits' ++ more') → Precedes (bits ++ more) (bits' ++ more')
@@ -170,7 +170,7 @@ module _ (table : List Costs) (es : List Element) (filled : IsFilledFrom table e
       ]
 
   next_all : {others : List Bool} {codes' : List Code} {rest' : List Element} {bits : List Bool} {spelled : List Element} (place : ℕ) (m : Mode) (code : Code)
-      (rest : List Element) (codes : List Code) (more : List Bool) (next : IsNext table es place m code) → place < length es
+      (rest : List Element) (codes : List Code) (more : List Bool) (next : IsFirstCheapest table es place m code) → place < length es
       → Entry m code bits spelled (code_next m code) → drop place es ≡ spelled ++ rest → IsFirst (code_next m code) rest codes more
       → length (bits ++ more) ≡ kept_cost table place m → Spells m codes' others rest' → rest' ≡ drop place es → Precedes (bits ++ more) others
   next_all place m code rest codes more next within entry splits is_first counted nothing is = absurd (omega (arith, ap length is, length-drop place es))
@@ -190,7 +190,7 @@ module _ (table : List Costs) (es : List Element) (filled : IsFilledFrom table e
       ]
 
   -- The first code and the first spelling of the rest make the first spelling of the whole
-  pub next_first : (place : ℕ) (m : Mode) (code : Code) → place < length es → IsNext table es place m code → (codes : List Code) (more : List Bool)
+  pub next_first : (place : ℕ) (m : Mode) (code : Code) → place < length es → IsFirstCheapest table es place m code → (codes : List Code) (more : List Bool)
       → IsFirst (code_next m code) (drop (place + code_count m code) es) codes more → (bits : List Bool) × IsFirst m (drop place es) (code ∷ codes) bits
   unfolding cost_through
   next_first place m code within next codes more is_first =

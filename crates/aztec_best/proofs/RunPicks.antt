@@ -16,16 +16,16 @@ use Rattle.aztec_best.specs.declared.front.Front.{Front}
 use Rattle.aztec_best.specs.Bench.{kept_cost}
 use Rattle.aztec_best.specs.Front.{bytes_ahead, front_of}
 use Rattle.aztec_best.specs.Order.{first_number, second_number, code_rank}
-use Rattle.aztec_best.specs.Picks.{cost_through, IsCheapest, IsPick, HasRank}
+use Rattle.aztec_best.specs.Picks.{cost_through, IsCheapest, IsFirstOfKind, HasRank}
 use Rattle.aztec_best.proofs.CodeRanks.{numbers_few, long_alone, short_alone}
 use Rattle.aztec_best.proofs.Decided.{short_fits, long_fits, run_there}
 use Rattle.aztec_best.proofs.Small.{valid_rest, stands_within}
 
 pub run_control : (table : List Costs) (es : List Element) (place : ℕ) (m : Mode) (first : ℕ) (o : Option Code) → table_symbol m first ≡ Binary
-    → IsPick table es place m (HasRank m (31 * 4096) (32 * 4096)) o → IsPick table es place m (HasRank m (first * 4096) (first * 4096 + 4096)) o
+    → IsFirstOfKind table es place m (HasRank m (31 * 4096) (32 * 4096)) o → IsFirstOfKind table es place m (HasRank m (first * 4096) (first * 4096 + 4096)) o
 run_control table es place m first o is pick =
     let at : first ≡ 31 = (binary_at m first is).1 in
-    subst (λ (k : ℕ). IsPick table es place m (HasRank m (k * 4096) (k * 4096 + 4096)) o) (sym at) pick
+    subst (λ (k : ℕ). IsFirstOfKind table es place m (HasRank m (k * 4096) (k * 4096 + 4096)) o) (sym at) pick
 
 pub binary_there : (m : Mode) (first : ℕ) → table_symbol m first ≡ Binary → table_symbol m 31 ≡ Binary
 binary_there m first is = subst (λ (k : ℕ). table_symbol m k ≡ Binary) (binary_at m first is).1 is
@@ -61,18 +61,18 @@ module _ (table : List Costs) (es : List Element) (place : ℕ) (m : Mode) (fron
       short_alone (form_of cheap.front.entry) (ap (table_symbol m) at ∙ binary) (omega arith) ∙ ap (λ (n : ℕ). Run n false) second
 
   -- One run more looked at.
-  pub long_more : (more : ℕ) → more < 2048 → IsPick table es place m (HasRank m (31 * 4096) (31 * 4096 + more)) None
+  pub long_more : (more : ℕ) → more < 2048 → IsFirstOfKind table es place m (HasRank m (31 * 4096) (31 * 4096 + more)) None
       → ((c : Code) → Some (Run (more + 31) true) ≡ Some c → IsCheapest table es place m c → ⊥)
-      → IsPick table es place m (HasRank m (31 * 4096) (31 * 4096 + (more + 1))) None
+      → IsFirstOfKind table es place m (HasRank m (31 * 4096) (31 * 4096 + (more + 1))) None
   long_more more below none refused = λ other cheap (low, high).
       elim (cases_lt (code_rank m other) (31 * 4096 + more)) [
         | inl before ↦ none other cheap (low, before)
         | inr at ↦ refused other (ap Some (sym (long_of_rank other more cheap (omega arith) below))) cheap
       ]
 
-  pub short_more : (less : ℕ) → less < 2048 → IsPick table es place m (HasRank m (31 * 4096 + 2048) (31 * 4096 + 2048 + less)) None
+  pub short_more : (less : ℕ) → less < 2048 → IsFirstOfKind table es place m (HasRank m (31 * 4096 + 2048) (31 * 4096 + 2048 + less)) None
       → ((c : Code) → Some (Run (less + 1) false) ≡ Some c → IsCheapest table es place m c → ⊥)
-      → IsPick table es place m (HasRank m (31 * 4096 + 2048) (31 * 4096 + 2048 + (less + 1))) None
+      → IsFirstOfKind table es place m (HasRank m (31 * 4096 + 2048) (31 * 4096 + 2048 + (less + 1))) None
   short_more less below none refused = λ other cheap (low, high).
       elim (cases_lt (code_rank m other) (31 * 4096 + 2048 + less)) [
         | inl before ↦ none other cheap (low, before)
@@ -80,8 +80,8 @@ module _ (table : List Costs) (es : List Element) (place : ℕ) (m : Mode) (fron
       ]
 
   -- The run that is found is the pick.
-  pub long_found : (more : ℕ) (found : Code) → more < 2048 → IsPick table es place m (HasRank m (31 * 4096) (31 * 4096 + more)) None
-      → (Some (Run (more + 31) true) ≡ Some found) × IsCheapest table es place m found → IsPick table es place m (HasRank m (31 * 4096) (31 * 4096 + 2048)) (Some found)
+  pub long_found : (more : ℕ) (found : Code) → more < 2048 → IsFirstOfKind table es place m (HasRank m (31 * 4096) (31 * 4096 + more)) None
+      → (Some (Run (more + 31) true) ≡ Some found) × IsCheapest table es place m found → IsFirstOfKind table es place m (HasRank m (31 * 4096) (31 * 4096 + 2048)) (Some found)
   unfolding first_number second_number
   long_found more found below none is =
       let same : Run (more + 31) true ≡ found = let e = is.0 in cc in
@@ -93,8 +93,8 @@ module _ (table : List Costs) (es : List Element) (place : ℕ) (m : Mode) (fron
             elim (cases_lt (code_rank m other) (31 * 4096 + more)) [ inl before ↦ absurd (none other cheap (low, before)) | inr at ↦ omega arith ];
       }
 
-  pub short_found : (less : ℕ) (found : Code) → less < 31 → IsPick table es place m (HasRank m (31 * 4096 + 2048) (31 * 4096 + 2048 + less)) None
-      → (Some (Run (less + 1) false) ≡ Some found) × IsCheapest table es place m found → IsPick table es place m (HasRank m (31 * 4096 + 2048) (32 * 4096)) (Some found)
+  pub short_found : (less : ℕ) (found : Code) → less < 31 → IsFirstOfKind table es place m (HasRank m (31 * 4096 + 2048) (31 * 4096 + 2048 + less)) None
+      → (Some (Run (less + 1) false) ≡ Some found) × IsCheapest table es place m found → IsFirstOfKind table es place m (HasRank m (31 * 4096 + 2048) (32 * 4096)) (Some found)
   unfolding first_number second_number
   short_found less found below none is =
       let same : Run (less + 1) false ≡ found = let e = is.0 in cc in
@@ -107,8 +107,8 @@ module _ (table : List Costs) (es : List Element) (place : ℕ) (m : Mode) (fron
       }
 
   -- Past the bytes in front there is no run.
-  pub long_all : (more : ℕ) → front.ahead - 30 ≤ more → IsPick table es place m (HasRank m (31 * 4096) (31 * 4096 + more)) None
-      → IsPick table es place m (HasRank m (31 * 4096) (31 * 4096 + 2048)) None
+  pub long_all : (more : ℕ) → front.ahead - 30 ≤ more → IsFirstOfKind table es place m (HasRank m (31 * 4096) (31 * 4096 + more)) None
+      → IsFirstOfKind table es place m (HasRank m (31 * 4096) (31 * 4096 + 2048)) None
   long_all more past none = λ other cheap (low, high).
       elim (cases_lt (code_rank m other) (31 * 4096 + more)) [
         | inl before ↦ none other cheap (low, before)
@@ -122,8 +122,8 @@ module _ (table : List Costs) (es : List Element) (place : ℕ) (m : Mode) (fron
           let ahead = ahead_is front (drop place es) fronts in
           absurd (omega (arith, run_there m (count + 31) true (drop place es) fits, fits.entry.has.2))
 
-  pub short_all : (less : ℕ) → min front.ahead 31 ≤ less → IsPick table es place m (HasRank m (31 * 4096 + 2048) (31 * 4096 + 2048 + less)) None
-      → IsPick table es place m (HasRank m (31 * 4096 + 2048) (32 * 4096)) None
+  pub short_all : (less : ℕ) → min front.ahead 31 ≤ less → IsFirstOfKind table es place m (HasRank m (31 * 4096 + 2048) (31 * 4096 + 2048 + less)) None
+      → IsFirstOfKind table es place m (HasRank m (31 * 4096 + 2048) (32 * 4096)) None
   short_all less past none = λ other cheap (low, high).
       elim (cases_lt (code_rank m other) (31 * 4096 + 2048 + less)) [
         | inl before ↦ none other cheap (low, before)

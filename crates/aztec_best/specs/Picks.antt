@@ -27,9 +27,9 @@ pub record IsFirstCode (table : List Costs) (elements : List Element) (place : �
   pub first : (other : Code) → IsCheapest table elements place mode other → Kind other → code_rank mode code ≤ code_rank mode other
 
 -- The first of the cheapest codes of a kind, none where there is none.
-abbrev pub IsPick : List Costs → List Element → (place : ℕ) → Mode → (Kind : Code → Type 0) → Option Code → Type 0
-IsPick table elements place mode Kind None = (other : Code) → IsCheapest table elements place mode other → Kind other → ⊥
-IsPick table elements place mode Kind (Some code) = IsFirstCode table elements place mode Kind code
+abbrev pub IsFirstOfKind : List Costs → List Element → (place : ℕ) → Mode → (Kind : Code → Type 0) → Option Code → Type 0
+IsFirstOfKind table elements place mode Kind None = (other : Code) → IsCheapest table elements place mode other → Kind other → ⊥
+IsFirstOfKind table elements place mode Kind (Some code) = IsFirstCode table elements place mode Kind code
 
 -- Codes with a rank from `low` on and before `high`.
 abbrev pub HasRank : Mode → (low high : ℕ) → Code → Type 0
@@ -56,5 +56,5 @@ flag_code (Some (element.Eci number)) = Some (Eci number (fewest_digits number))
 flag_code (Some element.Fnc1) = Some Fnc1
 
 -- The first of all cheapest codes. Each code begins with a number below 32.
-abbrev pub IsNext : List Costs → List Element → (place : ℕ) → Mode → Code → Type 0
-IsNext table elements place mode code = IsFirstCode table elements place mode (HasRank mode 0 (32 * 4096)) code
+abbrev pub IsFirstCheapest : List Costs → List Element → (place : ℕ) → Mode → Code → Type 0
+IsFirstCheapest table elements place mode code = IsFirstCode table elements place mode (HasRank mode 0 (32 * 4096)) code

@@ -120,6 +120,6 @@ pub fn path_next(bench: &Bench, elements: &Elements, at: Stand) -> Code
     requires within { at.place < length elements.now }
     ensures first { BeginsFirst at.mode (drop at.place elements.now) result }
 {
-    let _count = elements.len();
+    prove!((at.place as usize) < elements.len());
     next_code(rows(bench), elements, at)
 }

@@ -21,7 +21,7 @@ fn bits_through(costs: &[Costs], elements: &Elements, at: Stand, code: Code) -> 
     ensures value { result ≡ cost_through costs.now at.place at.mode code }
     ensures small { result < 2 ^ 40 }
 {
-    let _len = elements.len();
+    prove!(at.place as usize <= elements.len());
     let after = at.place as usize + code_count(at.mode, code) as usize;
     code_length(at.mode, code) + u64::from(kept(costs, after, code_next(at.mode, code)))
 }

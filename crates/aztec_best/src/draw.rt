@@ -79,7 +79,7 @@ pub fn drawn(
     ensures fewest { IfOk result (λ bits. IsFewest append elements.now (length bits)) }
     ensures bounded { IfOk result (λ bits. length bits ≤ 37 * length elements.now + 10) }
 {
-    let _count = elements.len();
+    prove!(elements.len() <= MOST_ELEMENTS as usize);
     let _fewest = shortest(bench, elements);
     let path = drawn_path(alloc, rows(bench), append, elements)?;
     let bits = spell(alloc, &path, elements)?;

@@ -52,7 +52,7 @@ pub(crate) fn front_at(elements: &Elements, place: usize, bytes: u32) -> Front
     requires counted { bytes ≡ bytes_ahead (drop place elements.now) }
     ensures { result ≡ front_of (drop place elements.now) }
 {
-    let _len = elements.len();
+    prove!(place < elements.len());
     Front {
         first: elements.get(place),
         second: elements.get(place + 1),

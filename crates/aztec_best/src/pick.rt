@@ -6,7 +6,7 @@ ghost use Rattle.aztec_modes.specs.Codes.{table_symbol};
 ghost use Rattle.aztec_modes.specs.Entry.{shift_number};
 ghost use Rattle.aztec_best.specs.Bench.{IsFilledFrom};
 ghost use Rattle.aztec_best.specs.Numbers.{controls_from};
-ghost use Rattle.aztec_best.specs.Picks.{HasRank, IsDataCode, IsNext, IsPick, data_code, flag_code};
+ghost use Rattle.aztec_best.specs.Picks.{HasRank, IsDataCode, IsFirstCheapest, IsFirstOfKind, data_code, flag_code};
 ghost use Rattle.aztec_best.specs.Ready.{IsReady};
 
 use crate::cheapest::if_cheapest;
@@ -77,7 +77,7 @@ fn pick_data(
     requires ready { IsReady costs.now elements.now at.place front.now }
     requires filled { IsFilledFrom costs.now elements.now 0 }
     requires shift { ForSome shift (λ to. table_symbol at.mode (shift_number at.mode to) ≡ Symbol.ShiftTo to) }
-    ensures { IsPick costs.now elements.now at.place at.mode (IsDataCode shift) result }
+    ensures { IsFirstOfKind costs.now elements.now at.place at.mode (IsDataCode shift) result }
 {
     let mode = shift.unwrap_or(at.mode);
     let own = own_number(mode, front.first);
@@ -95,7 +95,7 @@ fn pick_data(
 fn pick_plain(costs: &[Costs], elements: &Elements, at: Stand, front: &Front) -> Option<Code>
     requires ready { IsReady costs.now elements.now at.place front.now }
     requires filled { IsFilledFrom costs.now elements.now 0 }
-    ensures { IsPick costs.now elements.now at.place at.mode
+    ensures { IsFirstOfKind costs.now elements.now at.place at.mode
         (HasRank at.mode 4096 (controls_from at.mode * 4096)) result }
 {
     pick_data(costs, elements, at, front, None)
@@ -114,7 +114,7 @@ fn pick_shift(
     requires ready { IsReady costs.now elements.now at.place front.now }
     requires filled { IsFilledFrom costs.now elements.now 0 }
     requires shift { table_symbol at.mode first ≡ Symbol.ShiftTo to }
-    ensures { IsPick costs.now elements.now at.place at.mode (HasRank at.mode (first * 4096 + 7)
+    ensures { IsFirstOfKind costs.now elements.now at.place at.mode (HasRank at.mode (first * 4096 + 7)
         (first * 4096 + 4096)) result }
 {
     pick_data(costs, elements, at, front, Some(to))
@@ -126,7 +126,7 @@ fn pick_shift(
 fn pick_zero(costs: &[Costs], elements: &Elements, at: Stand, front: &Front) -> Option<Code>
     requires ready { IsReady costs.now elements.now at.place front.now }
     requires filled { IsFilledFrom costs.now elements.now 0 }
-    ensures { IsPick costs.now elements.now at.place at.mode (HasRank at.mode 0 4096) result }
+    ensures { IsFirstOfKind costs.now elements.now at.place at.mode (HasRank at.mode 0 4096) result }
 {
     match if_cheapest(costs, elements, at, flag_code(front.first)) {
         Some(found) => return Some(found),
@@ -149,7 +149,7 @@ fn pick_control(
     requires ready { IsReady costs.now elements.now at.place front.now }
     requires filled { IsFilledFrom costs.now elements.now 0 }
     requires control { controls_from at.mode ≤ first }
-    ensures { IsPick costs.now elements.now at.place at.mode (HasRank at.mode (first * 4096)
+    ensures { IsFirstOfKind costs.now elements.now at.place at.mode (HasRank at.mode (first * 4096)
         (first * 4096 + 4096)) result }
 {
     match symbol_at(at.mode, first) {
@@ -167,7 +167,7 @@ fn pick_control(
 fn pick_controls(costs: &[Costs], elements: &Elements, at: Stand, front: &Front) -> Option<Code>
     requires ready { IsReady costs.now elements.now at.place front.now }
     requires filled { IsFilledFrom costs.now elements.now 0 }
-    ensures { IsPick costs.now elements.now at.place at.mode (HasRank at.mode (controls_from at.mode * 4096)
+    ensures { IsFirstOfKind costs.now elements.now at.place at.mode (HasRank at.mode (controls_from at.mode * 4096)
         (32 * 4096)) result }
 {
     for first in controls_from(at.mode)..32u8 {
@@ -183,7 +183,7 @@ fn pick_controls(costs: &[Costs], elements: &Elements, at: Stand, front: &Front)
 fn pick(costs: &[Costs], elements: &Elements, at: Stand, front: &Front) -> Option<Code>
     requires ready { IsReady costs.now elements.now at.place front.now }
     requires filled { IsFilledFrom costs.now elements.now 0 }
-    ensures { IsPick costs.now elements.now at.place at.mode (HasRank at.mode 0 (32 * 4096)) result }
+    ensures { IsFirstOfKind costs.now elements.now at.place at.mode (HasRank at.mode 0 (32 * 4096)) result }
 {
     match pick_zero(costs, elements, at, front) {
         Some(found) => return Some(found),
@@ -200,10 +200,10 @@ fn pick(costs: &[Costs], elements: &Elements, at: Stand, front: &Front) -> Optio
 pub(crate) fn next_code(costs: &[Costs], elements: &Elements, at: Stand) -> Code
     requires filled { IsFilledFrom costs.now elements.now 0 }
     requires within { at.place < length elements.now }
-    ensures { IsNext costs.now elements.now at.place at.mode result }
+    ensures { IsFirstCheapest costs.now elements.now at.place at.mode result }
 {
-    let _len = elements.len();
     let place = at.place as usize;
+    prove!(place < elements.len());
     let front = front_at(elements, place, bytes_kept(costs, place));
     match pick(costs, elements, at, &front) {
         Some(code) => code,

@@ -5,7 +5,7 @@ ghost use Rattle.aztec_modes.specs.Codes.{table_symbol};
 ghost use Rattle.aztec_modes.specs.Entry.{SpellsFront};
 ghost use Rattle.aztec_modes.specs.declared.table.Symbol.TheVariants.{Binary};
 ghost use Rattle.aztec_best.specs.Bench.{IsFilledFrom};
-ghost use Rattle.aztec_best.specs.Picks.{HasRank, IsCheapest, IsPick};
+ghost use Rattle.aztec_best.specs.Picks.{HasRank, IsCheapest, IsFirstOfKind};
 ghost use Rattle.aztec_best.specs.Ready.{IsReady};
 
 use crate::costs::Costs;
@@ -47,7 +47,8 @@ fn pick_long(costs: &[Costs], elements: &Elements, at: Stand, front: &Front) -> 
     requires ready { IsReady costs.now elements.now at.place front.now }
     requires filled { IsFilledFrom costs.now elements.now 0 }
     requires binary { table_symbol at.mode 31 ≡ Binary }
-    ensures { IsPick costs.now elements.now at.place at.mode (HasRank at.mode (31 * 4096) (31 * 4096 + 2048)) result }
+    ensures { IsFirstOfKind costs.now elements.now at.place at.mode
+        (HasRank at.mode (31 * 4096) (31 * 4096 + 2048)) result }
 {
     for more in 0..front.ahead.saturating_sub(30) {
         match if_cheapest_run(costs, elements, at, more + 31, true) {
@@ -63,7 +64,8 @@ fn pick_short(costs: &[Costs], elements: &Elements, at: Stand, front: &Front) ->
     requires ready { IsReady costs.now elements.now at.place front.now }
     requires filled { IsFilledFrom costs.now elements.now 0 }
     requires binary { table_symbol at.mode 31 ≡ Binary }
-    ensures { IsPick costs.now elements.now at.place at.mode (HasRank at.mode (31 * 4096 + 2048) (32 * 4096)) result }
+    ensures { IsFirstOfKind costs.now elements.now at.place at.mode
+        (HasRank at.mode (31 * 4096 + 2048) (32 * 4096)) result }
 {
     for less in 0..front.ahead.min(31) {
         match if_cheapest_run(costs, elements, at, less + 1, false) {
@@ -84,7 +86,7 @@ pub(crate) fn pick_run(
     requires ready { IsReady costs.now elements.now at.place front.now }
     requires filled { IsFilledFrom costs.now elements.now 0 }
     requires binary { table_symbol at.mode 31 ≡ Binary }
-    ensures { IsPick costs.now elements.now at.place at.mode (HasRank at.mode (31 * 4096) (32 * 4096)) result }
+    ensures { IsFirstOfKind costs.now elements.now at.place at.mode (HasRank at.mode (31 * 4096) (32 * 4096)) result }
 {
     match pick_long(costs, elements, at, front) {
         Some(found) => Some(found),

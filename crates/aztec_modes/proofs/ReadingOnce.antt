@@ -5,7 +5,7 @@ use Rattle.aztec_modes.specs.declared.mode.Mode.{Mode}
 use Rattle.aztec_modes.specs.declared.mode.Mode.TheVariants.{Upper}
 use Rattle.aztec_modes.specs.declared.code.Code.{Code}
 use Rattle.aztec_modes.specs.Entry.{Entry}
-use Rattle.aztec_modes.specs.Reading.{fills, Reads, ends, onward, NoEntry, StopsAt, here, later, IsBadAt}
+use Rattle.aztec_modes.specs.Reading.{fills, Reads, ends, onward, NoEntry, HasNoCodeAt, here, later, IsBadAt}
 use Rattle.aztec_modes.proofs.OneReading.{one_reading}
 
 -- The first code of a reading, and the rest.
@@ -40,17 +40,17 @@ record FirstStop (width : ℕ) (mode : Mode) (bits : List Bool) (place : ℕ) : 
   next : Mode
   further : ℕ
   entry : Entry mode code first spelled next
-  stops : StopsAt width next rest further
+  stops : HasNoCodeAt width next rest further
   bits_split : bits ≡ first ++ rest
   place_split : place ≡ length first + further
 
 stops_code : (width : ℕ) {mode next : Mode} {bits : List Bool} {place : ℕ} {code : Code} {front : List Bool} {spelled : List Element} (back : List Bool)
-    → StopsAt width mode bits place → Entry mode code front spelled next → bits ≡ front ++ back → FirstStop width mode bits place
+    → HasNoCodeAt width mode bits place → Entry mode code front spelled next → bits ≡ front ++ back → FirstStop width mode bits place
 stops_code width {next = next} {code = code} {front = front} {spelled = spelled} back (here is none) entry splits = absurd (none code front back spelled next entry splits)
 stops_code width back (later {next = next} {code = code} {bits = first} {rest = rest} {spelled = spelled} {place = further} is entry stops) _ splits =
     record { code = code; first = first; rest = rest; spelled = spelled; next = next; further = further; entry = entry; stops = stops; bits_split = refl; place_split = refl }
 
-stops_short : (width : ℕ) {mode : Mode} {bits : List Bool} {place : ℕ} → StopsAt width mode bits place → NoEntry mode bits → place ≡ 0
+stops_short : (width : ℕ) {mode : Mode} {bits : List Bool} {place : ℕ} → HasNoCodeAt width mode bits place → NoEntry mode bits → place ≡ 0
 stops_short width (here is none) _ = refl
 stops_short width (later {next = next} {code = code} {bits = first} {rest = rest} {spelled = spelled} is entry stops) none =
     absurd (none code first rest spelled next entry refl)
@@ -68,7 +68,7 @@ reads_once width {elements' = elements'} (onward {next = next} {rest = rest} {sp
 
 -- Bits that stop have no reading.
 pub stops_apart : (width : ℕ) {mode : Mode} {bits : List Bool} {place : ℕ} {elements : List Element}
-    → StopsAt width mode bits place → Reads width mode bits elements → ⊥
+    → HasNoCodeAt width mode bits place → Reads width mode bits elements → ⊥
 stops_apart width (here is none) reads =
     let b = reads_code width reads is in
     none b.code b.first b.rest b.spelled b.next b.entry b.bits_split
@@ -80,13 +80,13 @@ stops_apart width (later {next = next} {rest = rest} is entry stops) reads =
 
 -- Bits stop at one place.
 pub stops_once : (width : ℕ) {mode : Mode} {bits : List Bool} {place place' : ℕ}
-    → StopsAt width mode bits place → StopsAt width mode bits place' → place ≡ place'
+    → HasNoCodeAt width mode bits place → HasNoCodeAt width mode bits place' → place ≡ place'
 stops_once width (here is none) latter = sym (stops_short width latter none)
 stops_once width (later {next = next} {bits = first} {rest = rest} {place = further} is entry stops) latter =
     let b = stops_code width rest latter entry refl in
     let alike = one_reading rest b.rest entry b.entry b.bits_split in
-    let same : StopsAt width next rest b.further =
-    subst (λ (m : Mode). StopsAt width m rest b.further) (sym alike.3) (subst (λ (xs : List Bool). StopsAt width b.next xs b.further) (sym alike.4) b.stops) in
+    let same : HasNoCodeAt width next rest b.further =
+    subst (λ (m : Mode). HasNoCodeAt width m rest b.further) (sym alike.3) (subst (λ (xs : List Bool). HasNoCodeAt width b.next xs b.further) (sym alike.4) b.stops) in
     ap (λ (n : ℕ). length first + n) (stops_once width stops same) ∙ ap (λ (xs : List Bool). length xs + b.further) alike.1 ∙ sym b.place_split
 
 -- What keeps bits from being read stands at one place.

@@ -13,7 +13,7 @@ use Rattle.aztec_modes.specs.declared.code.Code.{Code}
 use Rattle.aztec_modes.specs.declared.code.Code.TheVariants.{Latch, Plain, Shift, Fnc1, Eci, Run}
 use Rattle.aztec_modes.specs.Entry.{Entry, bytes_as_elements, code_length, code_next, run_head}
 use Rattle.aztec_modes.specs.Ahead.{bytes_in, code_ahead, spelled_ahead}
-use Rattle.aztec_modes.specs.Reading.{all_ones, fills, Reads, ends, onward, NoEntry, StopsAt, here, later, OnReading}
+use Rattle.aztec_modes.specs.Reading.{all_ones, fills, Reads, ends, onward, NoEntry, HasNoCodeAt, here, later, OnReading}
 use Rattle.aztec_modes.proofs.EntryLaws.{entry_len}
 use Rattle.aztec_modes.proofs.PathLaws.{cost_positive}
 use Rattle.aztec_modes.proofs.AheadLaws.{entry_ahead}
@@ -64,7 +64,7 @@ pub reading_begins : (width : ℕ) (bits : List Bool) → OnReading width bits 0
 reading_begins width bits = record {
   within = omega arith;
   reads = λ more reads. reads;
-  stops = λ place stops. subst (λ (n : ℕ). StopsAt width Upper bits n) (let e : place ≡ 0 + place = omega arith in e) stops;
+  stops = λ place stops. subst (λ (n : ℕ). HasNoCodeAt width Upper bits n) (let e : place ≡ 0 + place = omega arith in e) stops;
 }
 
 -- The reading ends.
@@ -74,9 +74,9 @@ reading_ends width bits at mode elements on full = subst (λ (es : List Element)
 
 -- The reading stops.
 pub reading_stops : (width : ℕ) (bits : List Bool) (at : ℕ) (mode : Mode) (elements : List Element) → OnReading width bits at mode elements → fills width (drop at bits) ≡ false
-    → code_ahead mode (drop at bits) ≡ None → StopsAt width Upper bits at
+    → code_ahead mode (drop at bits) ≡ None → HasNoCodeAt width Upper bits at
 reading_stops width bits at mode elements on going none =
-    subst (λ (n : ℕ). StopsAt width Upper bits n) (let e : at + 0 ≡ at = omega arith in e) (on.stops 0 (here going no_entry))
+    subst (λ (n : ℕ). HasNoCodeAt width Upper bits n) (let e : at + 0 ≡ at = omega arith in e) (on.stops 0 (here going no_entry))
   where
     no_entry : NoEntry mode (drop at bits)
     no_entry code front back spelled next entry splits =
@@ -103,10 +103,10 @@ reading_steps width bits at further mode next code elements more on going is mor
           (subst (λ (xs : List Bool). Reads width mode xs (spelled_ahead mode code (drop at bits) ++ es)) (sym found.splits)
           (onward still entry (subst (λ (xs : List Bool). Reads width next xs es) (sym rest_is) reads))));
       stops = λ place stops.
-          subst (λ (n : ℕ). StopsAt width Upper bits n) (let e : at + (length found.front + place) ≡ further + place = omega (arith, further_is, size) in e)
+          subst (λ (n : ℕ). HasNoCodeAt width Upper bits n) (let e : at + (length found.front + place) ≡ further + place = omega (arith, further_is, size) in e)
           (on.stops (length found.front + place)
-          (subst (λ (xs : List Bool). StopsAt width mode xs (length found.front + place)) (sym found.splits)
-          (later still entry (subst (λ (xs : List Bool). StopsAt width next xs place) (sym rest_is) stops))));
+          (subst (λ (xs : List Bool). HasNoCodeAt width mode xs (length found.front + place)) (sym found.splits)
+          (later still entry (subst (λ (xs : List Bool). HasNoCodeAt width next xs place) (sym rest_is) stops))));
     }
 
 -- It goes on.

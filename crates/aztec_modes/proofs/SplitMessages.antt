@@ -12,7 +12,7 @@ use Rattle.aztec_modes.specs.declared.reading.ReadFault.TheVariants.{BadSpelling
 use Rattle.aztec_modes.specs.declared.mode.Mode.TheVariants.{Upper}
 use Rattle.aztec_modes.specs.Entry.{bytes_as_elements}
 use Rattle.aztec_modes.specs.Message.{header_elements, header_bytes, identifier_bytes, gs1_elements, eci_elements, message_elements}
-use Rattle.aztec_modes.specs.Reading.{IsHeader, NoHeader, SplitsSo, IsProper, IsReading, IsRefusal, IsNoHeader, IsBadAt, IsStop, HasNoHeader, Reads, StopsAt}
+use Rattle.aztec_modes.specs.Reading.{IsHeader, NoHeader, SplitsSo, IsProper, IsReading, IsRefusal, IsNoHeader, IsBadAt, IsStop, HasNoHeader, Reads, HasNoCodeAt}
 use Rattle.aztec_modes.specs.Spelling.{append_mark, IsMarked}
 use Rattle.aztec_modes.specs.Split.{header_in, header_length}
 use Rattle.aztec_modes.proofs.AheadFound.{to_bits-number}

@@ -35,13 +35,13 @@ abbrev pub NoEntry : Mode → List Bool → Type 0
 NoEntry mode bits = (code : Code) (front back : List Bool) (spelled : List Element) (next : Mode)
     → Entry mode code front spelled next → bits ≡ front ++ back → ⊥
 
--- `StopsAt width mode bits place`: from `mode` on the bits are codes up to a place at which no code begins them, and at no code
+-- `HasNoCodeAt width mode bits place`: from `mode` on the bits are codes up to a place at which no code begins them, and at no code
 -- boundary up to there are they such as fill the last codeword.
-pub data StopsAt (width : ℕ) : Mode → List Bool → ℕ → Type 0 where
-  here : {mode : Mode} {bits : List Bool} → fills width bits ≡ false → NoEntry mode bits → StopsAt width mode bits 0
+pub data HasNoCodeAt (width : ℕ) : Mode → List Bool → ℕ → Type 0 where
+  here : {mode : Mode} {bits : List Bool} → fills width bits ≡ false → NoEntry mode bits → HasNoCodeAt width mode bits 0
   later : {mode next : Mode} {code : Code} {bits rest : List Bool} {spelled : List Element} {place : ℕ}
-      → fills width (bits ++ rest) ≡ false → Entry mode code bits spelled next → StopsAt width next rest place
-      → StopsAt width mode (bits ++ rest) (length bits + place)
+      → fills width (bits ++ rest) ≡ false → Entry mode code bits spelled next → HasNoCodeAt width next rest place
+      → HasNoCodeAt width mode (bits ++ rest) (length bits + place)
 
 -- The place of a symbol in a set, with an identifier that a header can carry: up to 32 bytes from 33 to 126.
 pub record IsHeader (append : Append) : Type 0 where
@@ -83,7 +83,7 @@ pub record HasNoHeader (width : ℕ) (bits : List Bool) : Type 0 where
 -- The place, in bits, of what keeps bits from being read: the first code that can't stand, or, where all codes stand, the header that
 -- is to follow the ten bits of the mark.
 abbrev pub IsBadAt : (width : ℕ) (bits : List Bool) (place : ℕ) → Type 0
-IsBadAt width bits place = StopsAt width Upper bits place ⊎ ((place ≡ 10) × HasNoHeader width bits)
+IsBadAt width bits place = HasNoCodeAt width Upper bits place ⊎ ((place ≡ 10) × HasNoHeader width bits)
 
 -- What a refusal to read says: the place of what keeps the bits from being read, or that memory is wanting.
 abbrev pub IsRefusal : (width : ℕ) (bits : List Bool) → ReadFault → Type 0
@@ -93,13 +93,13 @@ IsRefusal width bits (BadSpelling place) = IsBadAt width bits place
 -- The same for the codes alone.
 abbrev pub IsStop : (width : ℕ) (bits : List Bool) → ReadFault → Type 0
 IsStop width bits NoMemory = Unit {0}
-IsStop width bits (BadSpelling place) = StopsAt width Upper bits place
+IsStop width bits (BadSpelling place) = HasNoCodeAt width Upper bits place
 
 -- Where a reading stands behind some codes: what the rest of the bits reads as goes behind the elements so far.
 pub record OnReading (width : ℕ) (bits : List Bool) (at : ℕ) (mode : Mode) (elements : List Element) : Type 0 where
   pub within : at ≤ length bits
   pub reads : (more : List Element) → Reads width mode (drop at bits) more → Reads width Upper bits (elements ++ more)
-  pub stops : (place : ℕ) → StopsAt width mode (drop at bits) place → StopsAt width Upper bits (at + place)
+  pub stops : (place : ℕ) → HasNoCodeAt width mode (drop at bits) place → HasNoCodeAt width Upper bits (at + place)
 
 -- Elements of a set with no header: refused at the bit behind the mark.
 abbrev pub IsNoHeader : (marked : Bool) (elements : List Element) → ReadFault → Type 0

@@ -8,5 +8,5 @@ next_code-requires-clause-filled c = filled_rows c.rows.result.now c.args.bench.
 pub returns : goal.returns
 returns c = record {
   first = next_begins c.rows.result.now c.args.elements.now (filled_rows c.rows.result.now c.args.bench.now c.args.elements.now 0 c.rows.ensures c.requires.filled.1)
-      c.len-count.ensures.elements c.args.at.place c.args.at.mode c.next_code.result c.requires.within c.next_code.ensures;
+      c.len.ensures.elements c.args.at.place c.args.at.mode c.next_code.result c.requires.within c.next_code.ensures;
 }

@@ -10,18 +10,18 @@ spell-requires c = drawn_path-spells c.args.append c.args.elements.now c.in_ok-p
 
 pub returns-clause-drawn : goal.returns-clause-drawn
 returns-clause-drawn c =
-    (drawn_path-bits c.args.append c.args.elements.now c.in_ok-path.path c.in_ok-bits.bits c.len-count.ensures.elements c.in_ok-path.ensures c.in_ok-bits.ensures.only).drawn
+    (drawn_path-bits c.args.append c.args.elements.now c.in_ok-path.path c.in_ok-bits.bits c.len.ensures.elements c.in_ok-path.ensures c.in_ok-bits.ensures.only).drawn
 
 pub returns-clause-fewest : goal.returns-clause-fewest
 returns-clause-fewest c =
     drawn_fewest c.args.append c.args.elements.now c.in_ok-bits.bits
-    (drawn_path-bits c.args.append c.args.elements.now c.in_ok-path.path c.in_ok-bits.bits c.len-count.ensures.elements c.in_ok-path.ensures c.in_ok-bits.ensures.only).drawn
+    (drawn_path-bits c.args.append c.args.elements.now c.in_ok-path.path c.in_ok-bits.bits c.len.ensures.elements c.in_ok-path.ensures c.in_ok-bits.ensures.only).drawn
 
 pub returns-clause-bounded : goal.returns-clause-bounded
 returns-clause-bounded c =
-    (drawn_path-bits c.args.append c.args.elements.now c.in_ok-path.path c.in_ok-bits.bits c.len-count.ensures.elements c.in_ok-path.ensures c.in_ok-bits.ensures.only).few
+    (drawn_path-bits c.args.append c.args.elements.now c.in_ok-path.path c.in_ok-bits.bits c.len.ensures.elements c.in_ok-path.ensures c.in_ok-bits.ensures.only).few
 
 pub returns-clause-only : goal.returns-clause-only
 returns-clause-only c others drawn =
     drawn_once c.args.append c.args.elements.now others c.in_ok-bits.bits drawn
-    (drawn_path-bits c.args.append c.args.elements.now c.in_ok-path.path c.in_ok-bits.bits c.len-count.ensures.elements c.in_ok-path.ensures c.in_ok-bits.ensures.only).drawn
+    (drawn_path-bits c.args.append c.args.elements.now c.in_ok-path.path c.in_ok-bits.bits c.len.ensures.elements c.in_ok-path.ensures c.in_ok-bits.ensures.only).drawn

@@ -8,10 +8,10 @@ pick-requires-clause-ready c = record {
   filled = filled_through _ _ _ c.requires.filled;
   within = c.requires.within;
   fronts = c.front_at-front.ensures;
-  valid = c.len-len.ensures.elements;
+  valid = c.len.ensures.elements;
 }
 
 pub unreachable-requires : goal.unreachable-requires
 unreachable-requires c =
-    let (code, cheap) = cheapest_there c.args.costs.now c.args.elements.now c.requires.filled c.len-len.ensures.elements c.args.at.place c.args.at.mode c.requires.within in
+    let (code, cheap) = cheapest_there c.args.costs.now c.args.elements.now c.requires.filled c.len.ensures.elements c.args.at.place c.args.at.mode c.requires.within in
     c.in-None.ensures code cheap (omega arith, rank_few cheap.front)
