@@ -1,3 +1,5 @@
 pub mod Held
+pub mod OneModeMessage
+pub mod OneSymbol
 pub mod Refusals
 pub mod Spelled

@@ -1,5 +1,5 @@
 -- What is spelled has bits.
-use Rattle.std.proofs.Common.{◌<◌, Bool, true, false, List, length, arith, length-append}
+use Rattle.std.proofs.Common.{◌<◌, Bool, true, false, List, length, ap, arith, length-append}
 use Rattle.bar_base.specs.declared.element.Element.{Element}
 use Rattle.aztec_modes.specs.declared.mode.Mode.{Mode}
 use Rattle.aztec_modes.specs.declared.mode.Mode.TheVariants.{Upper, Lower, Mixed, Punct, Digit}
@@ -7,7 +7,7 @@ use Rattle.aztec_modes.specs.declared.code.Code.{Code}
 use Rattle.aztec_modes.specs.declared.code.Code.TheVariants.{Latch, Plain, Shift, Fnc1, Eci, Run}
 use Rattle.aztec_modes.specs.Codes.{mode_width}
 use Rattle.aztec_modes.specs.Entry.{code_length, flag_width}
-use Rattle.aztec_modes.specs.Spelling.{Spells, nothing, onward}
+use Rattle.aztec_modes.specs.Spelling.{Spells, append_mark, nothing, onward}
 use Rattle.aztec_modes.proofs.EntryLaws.{entry_len}
 use Rattle.aztec_best.specs.Shortest.{IsDrawn}
 
@@ -43,6 +43,9 @@ spells_some nothing some = absurd (omega arith)
 spells_some {mode} (onward {code = code} {bits = bits} {rest = rest} entry more) some =
     omega (arith, length-append bits rest, entry_len entry, length_positive mode code)
 
--- The drawn spelling of some elements has bits.
-pub drawn_some : (elements : List Element) (bits : List Bool) → IsDrawn false elements bits → 0 < length elements → 0 < length bits
-drawn_some elements bits h some = spells_some h.spelling.0.1 some
+-- The drawn spelling of some elements has bits, with the mark of a set or without.
+pub drawn_some : (append : Bool) (elements : List Element) (bits : List Bool) → IsDrawn append elements bits → 0 < length elements → 0 < length bits
+drawn_some false elements bits h some = spells_some h.spelling.0.1 some
+drawn_some true elements bits h some =
+    let (rest, is, spelled) = h.spelling in
+    omega (arith, ap length is, length-append append_mark rest, spells_some spelled.1 some)

@@ -30,7 +30,9 @@ pub(crate) fn checked(alloc: Global, size: Size, words: Words) -> Result<Words, 
     }
 }
 
-/// Codewords and the check codewords behind them, `count` in all.
+/// Codewords and the check codewords behind them, `count` in all. It is not inlined: each field has tables of its own on the stack, and
+/// a call pays for those of its field alone.
+#[inline(never)]
 fn with_check<P: Poly>(alloc: Global, words: Words, count: usize) -> Result<Words, NoMemory>
     requires each { All (λ word. word ≤ P.ORDER) words }
     requires room { length words ≤ count }

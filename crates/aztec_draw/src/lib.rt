@@ -9,7 +9,7 @@ mod symbol;
 
 pub use drawing::draw_elements;
 pub use fault::DrawFault;
-pub use symbol::Symbol;
+pub use symbol::AztecSymbol;
 
 #[cfg(test)]
 mod tests;

@@ -1,4 +1,5 @@
 ghost use Rattle.std.specs.Prelude.{◌≤◌};
+ghost use Rattle.aztec_layout.specs.ModeMessage.{CanHold};
 ghost use Rattle.aztec_layout.specs.Sizes.{IsSize, codewords_of};
 
 use aztec_layout::Size;
@@ -6,7 +7,7 @@ use bar_base::{Bits, Grid};
 
 /// An Aztec symbol.
 #[derive(Debug, Drop)]
-pub struct Symbol {
+pub struct AztecSymbol {
     /// The bits of the codes that spell the elements.
     pub spelling: Bits,
     /// The size.
@@ -17,4 +18,5 @@ pub struct Symbol {
     pub grid: Grid,
     pub ghost sized: { IsSize size },
     pub ghost room: { held ≤ codewords_of size },
+    pub ghost can_hold: { CanHold size held },
 }

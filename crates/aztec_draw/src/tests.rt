@@ -2,7 +2,7 @@
 
 ghost use Rattle.aztec_layout.specs.Allowed.{CanBeAsked};
 
-use crate::{DrawFault, Symbol, draw_elements};
+use crate::{AztecSymbol, DrawFault, draw_elements};
 use aztec_layout::{Allowed, NoFit, Size};
 use bar_base::{Bits, Element, Elements, Grid};
 use std::alloc::Global;
@@ -39,7 +39,7 @@ fn draw_bytes<R: Abort>(
     alloc: Global,
     bytes: &[u8],
     allowed: Allowed,
-) -> Result<Symbol, DrawFault>
+) -> Result<AztecSymbol, DrawFault>
     requires { CanBeAsked allowed }
 {
     let mut elements = Elements::new(alloc);
@@ -47,7 +47,7 @@ fn draw_bytes<R: Abort>(
         elements.push(Element::Byte(*byte))?;
     }
     assert!(rt; !elements.is_empty() && elements.len() <= 8192);
-    draw_elements(alloc, &elements, allowed)
+    draw_elements(alloc, false, &elements, allowed)
 }
 
 fn has_bits(bits: &Bits, expected: &[u8]) -> bool {
