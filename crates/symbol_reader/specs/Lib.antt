@@ -1,0 +1,5 @@
+pub mod Correction
+pub mod Reading
+pub mod Drawn
+pub mod GridLines
+pub mod Scanning
