@@ -1,0 +1,9 @@
+pub mod Lists
+pub mod PixelLemmas
+pub mod Rows
+pub mod Sides
+pub mod Seen
+pub mod Steps
+pub mod BitsOfBytes
+pub mod HeaderBack
+pub mod ReadBack

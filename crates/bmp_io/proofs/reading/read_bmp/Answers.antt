@@ -1,0 +1,10 @@
+use Rattle.std.proofs.Common.{subst, ap, ◌∙◌}
+use Rattle.bar_base.specs.Steps.{Gives}
+use Rattle.bmp_io.specs.ReadBmp.{picture_of}
+use Rattle.bmp_io.specs.Refusals.{bmp_refusal}
+use Rattle.bmp_io.proofs.ReadBack.{read_back}
+use Rattle.bmp_io.proofs.reading.read_bmp.Goals as goal
+
+pub returns-clause-back : goal.returns-clause-back
+returns-clause-back c = λ picture symbol same.
+    subst (Gives bmp_refusal (λ grid. grid) c.read.result) (ap (picture_of c.args.paint) same ∙ read_back c.args.paint picture c.requires symbol) c.read.ensures

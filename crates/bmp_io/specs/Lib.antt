@@ -1,0 +1,6 @@
+pub mod Bmp
+pub mod BmpHeader
+pub mod Pixels
+pub mod PixelsRead
+pub mod ReadBmp
+pub mod Refusals
