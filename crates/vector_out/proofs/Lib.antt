@@ -1,0 +1,4 @@
+pub mod PutPieceByPiece
+pub mod GridLines
+pub mod RunLines
+pub mod RectanglesInside
