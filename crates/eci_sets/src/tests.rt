@@ -1,5 +1,5 @@
 use crate::{SetFault, choose, decode, encode, text_of};
-use bar_base::{Element, Elements};
+use bar_base::{Element, Elements, NoMemory};
 use std::alloc::Global;
 use std::process::Abort;
 use std::test::Fail;
@@ -132,20 +132,52 @@ fn faults(rt: HostRuntime) -> Result<(), Fail> {
     Ok(())
 }
 
+// Whether the body has this text.
+fn has_text(
+    alloc: Global,
+    body: &Elements,
+    eci: Option<u32>,
+    wanted: &str,
+) -> Result<bool, NoMemory> {
+    match text_of(alloc, body, eci)? {
+        Some(text) => Ok(text.as_str() == wanted),
+        None => Ok(false),
+    }
+}
+
 #[test]
 fn parts(rt: HostRuntime) -> Result<(), Fail> {
     let alloc = rt.alloc();
     let mut body = Elements::new(alloc);
-    body.push(Element::Byte(0xe9))?;
-    body.push(Element::Eci(9))?;
+    assert!(&rt; has_text(alloc, &body, None, "")?);
+    assert!(&rt; has_text(alloc, &body, Some(9), "")?);
+    body.push(Element::Byte(b'A'))?;
     body.push(Element::Eci(7))?;
     body.push(Element::Byte(0xcf))?;
-    match text_of(alloc, &body, None)? {
-        Some(text) => assert_eq!(&rt; text.as_str(), "éЯ"),
-        None => assert!(&rt; false),
-    }
-    assert!(&rt; text_of(alloc, &body, Some(26))?.is_none());
-    body.push(Element::Fnc1)?;
+    assert!(&rt; has_text(alloc, &body, None, "AЯ")?);
+
+    // The number 9 names no set: without bytes behind it that is nothing, with bytes there is no text.
+    body.push(Element::Eci(9))?;
+    assert!(&rt; has_text(alloc, &body, None, "AЯ")?);
+    body.push(Element::Byte(b'A'))?;
     assert!(&rt; text_of(alloc, &body, None)?.is_none());
+    Ok(())
+}
+
+#[test]
+fn bodies_without_text(rt: HostRuntime) -> Result<(), Fail> {
+    let alloc = rt.alloc();
+    let mut body = Elements::new(alloc);
+    body.push(Element::Byte(0xe9))?;
+    assert!(&rt; has_text(alloc, &body, Some(7), "щ")?);
+    assert!(&rt; text_of(alloc, &body, Some(26))?.is_none());
+    body.push(Element::Eci(27))?;
+    assert!(&rt; has_text(alloc, &body, None, "é")?);
+    body.push(Element::Byte(0x80))?;
+    assert!(&rt; text_of(alloc, &body, None)?.is_none());
+
+    let mut strings = Elements::new(alloc);
+    strings.push(Element::Fnc1)?;
+    assert!(&rt; text_of(alloc, &strings, None)?.is_none());
     Ok(())
 }

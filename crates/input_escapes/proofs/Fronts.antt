@@ -1,6 +1,6 @@
 -- The piece at the front of a text depends on no byte after it, so no piece begins another.
 use Rattle.std.proofs.Common.{◌≡◌, ℕ, suc, ◌+◌, ◌-◌, ◌<◌, ◌≤◌, ◌∙◌, [], ◌∷◌, ◌==◌, Bool, true, false, nat_lt, Option, Some, None, length, get_or, take, drop, if◌then◌else◌, refl, ap, sym, arith}
-use Rattle.input_escapes.specs.Escapes.{Bytes, after_backslash, base_of, bounded, byte_of, digits_of, form_head, form_of, head, letter_head, number_at, number_head, number_written, numbered, piece, stands_for}
+use Rattle.input_escapes.specs.Escapes.{Bytes, after_backslash, base_of, bounded, byte_of, digits_of, form_head, form_of, head, letter_head, number_at, number_head, number_written, head_of_number, piece, stands_for}
 use Rattle.input_escapes.specs.declared.form.NumberForm.{NumberForm}
 
 -- a text that is not empty, by its first byte and the rest
@@ -39,7 +39,7 @@ bounded_size size n (Some bytes) b is = cc
 pub number_size : (f : NumberForm) (t : Bytes) (n : ℕ) (b : Bytes) → number_head f t ≡ piece n b → (n ≡ digits_of f + 2) × (digits_of f ≤ length t)
 unfolding number_head
 number_size f t n b is =
-    elim (number_at (base_of f) (digits_of f) t) as (λ o. number_at (base_of f) (digits_of f) t ≡ o → numbered f o ≡ piece n b → (n ≡ digits_of f + 2) × (digits_of f ≤ length t)) [
+    elim (number_at (base_of f) (digits_of f) t) as (λ o. number_at (base_of f) (digits_of f) t ≡ o → head_of_number f o ≡ piece n b → (n ≡ digits_of f + 2) × (digits_of f ≤ length t)) [
       | None ↦ λ _ impossible. cc
       | Some k ↦ λ read e. (bounded_size (digits_of f + 2) n (stands_for f k) b e, (number_there (base_of f) (digits_of f) k t read).0)
     ] refl is
@@ -48,9 +48,9 @@ pub number_local : (f : NumberForm) (t u : Bytes) (n : ℕ) (b : Bytes) → numb
     → digits_of f ≤ length u → number_head f u ≡ piece n b
 unfolding number_head
 number_local f t u n b is same long =
-    elim (number_at (base_of f) (digits_of f) t) as (λ o. number_at (base_of f) (digits_of f) t ≡ o → numbered f o ≡ piece n b → number_head f u ≡ piece n b) [
+    elim (number_at (base_of f) (digits_of f) t) as (λ o. number_at (base_of f) (digits_of f) t ≡ o → head_of_number f o ≡ piece n b → number_head f u ≡ piece n b) [
       | None ↦ λ _ impossible. cc
-      | Some k ↦ λ read e. ap (numbered f) (number_again (base_of f) (digits_of f) u long ∙ ap (number_written (base_of f)) same
+      | Some k ↦ λ read e. ap (head_of_number f) (number_again (base_of f) (digits_of f) u long ∙ ap (number_written (base_of f)) same
           ∙ (number_there (base_of f) (digits_of f) k t read).1) ∙ e
     ] refl is
 

@@ -5,7 +5,7 @@ use Rattle.std.proofs.lemmas.Bool.{eqb-true, lt-ltb}
 use Rattle.std.proofs.lemmas.Bool.Decides.{nat_tests}
 use Rattle.std.specs.Str.Parse.{digits_value}
 use Rattle.std.specs.List.{All, flat_map}
-use Rattle.input_escapes.specs.Escapes.{Bytes, after_backslash, bounded, byte_of, escaped, escaped_in_text, form_of, head, hexadecimal, number_at, number_head, number_written, numbered, piece, stands_for}
+use Rattle.input_escapes.specs.Escapes.{Bytes, after_backslash, bounded, byte_of, escaped, escaped_in_text, form_of, head, hexadecimal, number_at, number_head, number_written, head_of_number, piece, stands_for}
 use Rattle.input_escapes.specs.Texts.{IsPiece, StandsFor}
 use Rattle.input_escapes.specs.declared.form.NumberForm.TheVariants.{Hexadecimal}
 
@@ -29,7 +29,7 @@ hexadecimal_piece b below =
     let low : b % 16 < 16 = omega arith in
     let whole : b / 16 * 16 + b % 16 ≡ b = omega arith in
     let small : nat_lt b 256 ≡ true = lt-ltb b 256 below in
-    ap (numbered Hexadecimal) (two_digits (hexadecimal (b / 16)) (hexadecimal (b % 16)) (b / 16) (b % 16) (digit_read (b / 16) high) (digit_read (b % 16) low) high low
+    ap (head_of_number Hexadecimal) (two_digits (hexadecimal (b / 16)) (hexadecimal (b % 16)) (b / 16) (b % 16) (digit_read (b / 16) high) (digit_read (b % 16) low) high low
     ∙ ap Some whole)
     ∙ ap (λ t. bounded 4 (if t then Some (b ∷ []) else None)) small
 

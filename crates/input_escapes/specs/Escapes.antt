@@ -89,12 +89,12 @@ bounded size None = out_of_range
 bounded size (Some bytes) = piece size bytes
 
 -- by the number
-abbrev pub numbered : NumberForm → Option ℕ → Head
-numbered form None = short
-numbered form (Some n) = bounded (digits_of form + 2) (stands_for form n)
+abbrev pub head_of_number : NumberForm → Option ℕ → Head
+head_of_number form None = short
+head_of_number form (Some n) = bounded (digits_of form + 2) (stands_for form n)
 
 unfoldable pub number_head : NumberForm → Bytes → Head
-number_head form rest = numbered form (number_at (base_of form) (digits_of form) rest)
+number_head form rest = head_of_number form (number_at (base_of form) (digits_of form) rest)
 
 -- by the form of the letter
 abbrev pub form_head : Option NumberForm → Bytes → Head
