@@ -12,7 +12,7 @@ use Rattle.code128_best.specs.declared.state.State.{State}
 use Rattle.code128_best.specs.declared.effect.Effect.{Effect}
 use Rattle.code128_best.specs.Rules as rule
 use Rattle.code128_best.specs.Rules.{is_b}
-use Rattle.code128_best.specs.Values.{character_in, other_set, reading_set, reads_high, character_of, spent, with_fnc4, is_free, act_in_a, act_in_b, act_in_c, act_of}
+use Rattle.code128_best.specs.Values.{character_of_set, other_set, reading_set, reads_high, character_of, spent, with_fnc4, is_free, act_in_a, act_in_b, act_in_c, act_of}
 use Rattle.code128_best.specs.Spelling.{ValuesSpell, ended, onward, plain, IsCode128Element}
 
 -- set B with the latch off
@@ -36,13 +36,13 @@ fnc1_step : (values : List ℕ) (es : List Element) → ValuesSpell (plain B) va
 unfolding plain
 fnc1_step values es spells = onward (rule.fnc1 (record { shift = refl; fnc4 = refl })) spells
 
-in_a_low : (fnc4 : Bool) (byte : ℕ) → byte < 32 → character_in A (byte + 64) ≡ byte
-unfolding character_in
+in_a_low : (fnc4 : Bool) (byte : ℕ) → byte < 32 → character_of_set A (byte + 64) ≡ byte
+unfolding character_of_set
 in_a_low fnc4 byte low = grind (arith, nat_tests)
 
 byte_spelled : (byte : ℕ) (values : List ℕ) (es : List Element) → byte < 256 → ValuesSpell (plain B) values es
     → (more : List ℕ) × ValuesSpell (plain B) more (element.Byte byte ∷ es) × (length more ≤ length values + 3)
-unfolding plain character_of reads_high reading_set other_set character_in
+unfolding plain character_of reads_high reading_set other_set character_of_set
 byte_spelled byte values es small spells =
     elim (cases_lt byte 32) [
       | inl control ↦ (
@@ -56,7 +56,7 @@ byte_spelled byte values es small spells =
           | inl control ↦ (
             100 ∷ 98 ∷ (byte - 128 + 64) ∷ values,
             fnc4_step _ _ (shift_step true _ _ (character_step true true (byte - 128 + 64) byte values es (omega arith)
-                (let e : character_in A (byte - 128 + 64) + 128 ≡ byte = omega (arith, in_a_low true (byte - 128) (omega arith)) in e) spells)),
+                (let e : character_of_set A (byte - 128 + 64) + 128 ≡ byte = omega (arith, in_a_low true (byte - 128) (omega arith)) in e) spells)),
             omega arith,
           )
           | inr high ↦ (

@@ -8,7 +8,7 @@ use Rattle.code128_best.specs.declared.effect.Effect.{Effect}
 use Rattle.code128_best.specs.declared.effect.Spelled.TheVariants.{Nothing}
 use Rattle.code128_best.specs.declared.stepping.Stand.{Stand}
 use Rattle.code128_best.specs.Values.{act_in_a, act_in_b, act_in_c, act_of, silent_if, fnc1_if, is_free, with_fnc4, spelled_count}
-use Rattle.code128_best.specs.Steps.{stands_at, follow, value_step, is_end, kept_cost, next_cost, cost_through}
+use Rattle.code128_best.specs.Steps.{stands_at, follow, value_step, is_end, kept_values, next_cost, values_through}
 use Rattle.code128_best.specs.Own.{own_of}
 use Rattle.code128_best.specs.Costs.{IsBest}
 use Rattle.code128_best.proofs.StepLaws.{both}
@@ -23,15 +23,15 @@ stand place s = record { place = place; state = s }
 abbrev silently : State → Option Effect
 silently next = Some (record { next = next; spelled = Nothing })
 
-none_here : (table : List ℕ) (es : List Element) (place : ℕ) (s : State) (value : ℕ) → act_of s value ≡ None → 1000 ≡ cost_through table es (stand place s) value
-unfolding cost_through value_step follow next_cost
+none_here : (table : List ℕ) (es : List Element) (place : ℕ) (s : State) (value : ℕ) → act_of s value ≡ None → 1000 ≡ values_through table es (stand place s) value
+unfolding values_through value_step follow next_cost
 none_here table es place s value acts = sym (ap (λ (o : Option Effect). next_cost table (follow es place o)) acts)
 
-silent_here : (table : List ℕ) (es : List Element) (place : ℕ) (s next : State) (value cost : ℕ) → act_of s value ≡ silently next → cost ≡ 1 + kept_cost table (stand place next)
-    → cost ≡ cost_through table es (stand place s) value
-unfolding cost_through value_step follow next_cost stands_at spelled_count
+silent_here : (table : List ℕ) (es : List Element) (place : ℕ) (s next : State) (value cost : ℕ) → act_of s value ≡ silently next → cost ≡ 1 + kept_values table (stand place next)
+    → cost ≡ values_through table es (stand place s) value
+unfolding values_through value_step follow next_cost stands_at spelled_count
 silent_here table es place s next value cost acts is =
-    is ∙ ap (λ (p : ℕ). 1 + kept_cost table (stand p next)) (let e : place ≡ place + 0 = omega arith in e)
+    is ∙ ap (λ (p : ℕ). 1 + kept_values table (stand p next)) (let e : place ≡ place + 0 = omega arith in e)
     ∙ sym (ap (λ (o : Option Effect). next_cost table (follow es place o)) acts)
 
 no_end : (es : List Element) (at : Stand) → (is_free at.state ≡ false) → IsBest [] es at 0 1000
@@ -44,11 +44,11 @@ no_end es at pending = record {
 }
 
 pub best_shifted : (table : List ℕ) (es : List Element) (place : ℕ) (is_b latch fnc4 : Bool) (own best : ℕ)
-    → own ≡ cost_through table es (stand place (made (cond is_b B A) latch fnc4 true)) (own_of es (stand place (made (cond is_b B A) latch fnc4 true)))
+    → own ≡ values_through table es (stand place (made (cond is_b B A) latch fnc4 true)) (own_of es (stand place (made (cond is_b B A) latch fnc4 true)))
     → best ≡ min own 1000 → IsBest table es (stand place (made (cond is_b B A) latch fnc4 true)) 103 best
 unfolding act_of act_in_a act_in_b silent_if fnc1_if is_free
 best_shifted table es place is_b latch fnc4 own best e is = by is_b fnc4 e where
-  by : (is_b fnc4 : Bool) → own ≡ cost_through table es (stand place (made (cond is_b B A) latch fnc4 true)) (own_of es (stand place (made (cond is_b B A) latch fnc4 true)))
+  by : (is_b fnc4 : Bool) → own ≡ values_through table es (stand place (made (cond is_b B A) latch fnc4 true)) (own_of es (stand place (made (cond is_b B A) latch fnc4 true)))
       → IsBest table es (stand place (made (cond is_b B A) latch fnc4 true)) 103 best
   by true true e =
       let s = made B latch true true in
@@ -76,8 +76,8 @@ best_shifted table es place is_b latch fnc4 own best e is = by is_b fnc4 e where
       (omega arith) (omega arith) (omega arith) (omega arith) (omega arith) (omega arith)
 
 pub best_fnc4 : (table : List ℕ) (es : List Element) (place : ℕ) (is_b latch : Bool) (own shift turned m0 m1 best : ℕ)
-    → own ≡ cost_through table es (stand place (made (cond is_b B A) latch true false)) (own_of es (stand place (made (cond is_b B A) latch true false)))
-    → shift ≡ 1 + kept_cost table (stand place (made (cond is_b B A) latch true true)) → turned ≡ 1 + kept_cost table (stand place (made (cond is_b B A) (not latch) false false))
+    → own ≡ values_through table es (stand place (made (cond is_b B A) latch true false)) (own_of es (stand place (made (cond is_b B A) latch true false)))
+    → shift ≡ 1 + kept_values table (stand place (made (cond is_b B A) latch true true)) → turned ≡ 1 + kept_values table (stand place (made (cond is_b B A) (not latch) false false))
     → m0 ≡ min 1000 own → m1 ≡ min m0 shift → best ≡ min m1 turned → IsBest table es (stand place (made (cond is_b B A) latch true false)) 103 best
 unfolding act_of act_in_a act_in_b silent_if fnc1_if is_free with_fnc4
 best_fnc4 table es place true latch own shift turned m0 m1 best e e1 e2 i0 i1 i2 =
@@ -95,8 +95,8 @@ best_fnc4 table es place false latch own shift turned m0 m1 best e e1 e2 i0 i1 i
     (none_here table es place s 100 refl) (silent_here table es place s (made A (not latch) false false) 101 turned refl e2) (none_here table es place s 102 refl)
     i0 i1 (omega arith) (omega arith) i2 (omega arith)
 
-to_c_here : (table : List ℕ) (es : List Element) (place : ℕ) (is_b latch : Bool) (cost : ℕ) → cost ≡ cond latch 1000 (1 + kept_cost table (stand place (made C false false false)))
-    → cost ≡ cost_through table es (stand place (made (cond is_b B A) latch false false)) 99
+to_c_here : (table : List ℕ) (es : List Element) (place : ℕ) (is_b latch : Bool) (cost : ℕ) → cost ≡ cond latch 1000 (1 + kept_values table (stand place (made C false false false)))
+    → cost ≡ values_through table es (stand place (made (cond is_b B A) latch false false)) 99
 unfolding act_of act_in_a act_in_b silent_if is_free
 to_c_here table es place true true cost is = is ∙ none_here table es place (made B true false false) 99 refl
 to_c_here table es place false true cost is = is ∙ none_here table es place (made A true false false) 99 refl
@@ -105,12 +105,12 @@ to_c_here table es place false false cost is = silent_here table es place (made 
 
 pub best_free : (table : List ℕ) (es : List Element) (place : ℕ) (is_b latch : Bool) (end own shift to_c by_100 by_101 fnc1 m0 m1 m2 m3 m4 best : ℕ)
     → IsBest [] es (stand place (made (cond is_b B A) latch false false)) 0 end
-    → own ≡ cost_through table es (stand place (made (cond is_b B A) latch false false)) (own_of es (stand place (made (cond is_b B A) latch false false)))
-    → shift ≡ 1 + kept_cost table (stand place (made (cond is_b B A) latch false true))
-    → to_c ≡ cond latch 1000 (1 + kept_cost table (stand place (made C false false false)))
-    → by_100 ≡ 1 + kept_cost table (stand place (made B latch is_b false))
-    → by_101 ≡ 1 + kept_cost table (stand place (made A latch (not is_b) false))
-    → fnc1 ≡ cost_through table es (stand place (made (cond is_b B A) latch false false)) 102
+    → own ≡ values_through table es (stand place (made (cond is_b B A) latch false false)) (own_of es (stand place (made (cond is_b B A) latch false false)))
+    → shift ≡ 1 + kept_values table (stand place (made (cond is_b B A) latch false true))
+    → to_c ≡ cond latch 1000 (1 + kept_values table (stand place (made C false false false)))
+    → by_100 ≡ 1 + kept_values table (stand place (made B latch is_b false))
+    → by_101 ≡ 1 + kept_values table (stand place (made A latch (not is_b) false))
+    → fnc1 ≡ values_through table es (stand place (made (cond is_b B A) latch false false)) 102
     → m0 ≡ min end own → m1 ≡ min m0 shift → m2 ≡ min m1 to_c → m3 ≡ min m2 by_100 → m4 ≡ min m3 by_101 → best ≡ min m4 fnc1
     → IsBest table es (stand place (made (cond is_b B A) latch false false)) 103 best
 unfolding act_of act_in_a act_in_b silent_if is_free with_fnc4
@@ -130,15 +130,15 @@ best_free table es place false latch end own shift to_c by_100 by_101 fnc1 m0 m1
 -- a pair costs what the own one costs, or has no cost
 record Pair (table : List ℕ) (es : List Element) (at : Stand) (own value : ℕ) : Type 0 where
   pub cost : ℕ
-  pub is : cost ≡ cost_through table es at value
+  pub is : cost ≡ values_through table es at value
   pub high : (cost ≡ 1000) ⊎ (cost ≡ own)
 
 pair_here : (table : List ℕ) (es : List Element) (place : ℕ) (latch fnc4 shift : Bool) (own value : ℕ)
-    → own ≡ cost_through table es (stand place (made C latch fnc4 shift)) (own_of es (stand place (made C latch fnc4 shift))) → value < 100
+    → own ≡ values_through table es (stand place (made C latch fnc4 shift)) (own_of es (stand place (made C latch fnc4 shift))) → value < 100
     → Pair table es (stand place (made C latch fnc4 shift)) own value
 pair_here table es place latch fnc4 shift own value e below =
     elim (pair_or es place latch fnc4 shift value below) [
-      | inl same ↦ record { cost = own; is = e ∙ ap (λ (v : ℕ). cost_through table es (stand place (made C latch fnc4 shift)) v) (sym same); high = inr refl }
+      | inl same ↦ record { cost = own; is = e ∙ ap (λ (v : ℕ). values_through table es (stand place (made C latch fnc4 shift)) v) (sym same); high = inr refl }
       | inr none ↦ record { cost = 1000; is = sym (none_dear table es (stand place (made C latch fnc4 shift)) value none); high = inl refl }
     ]
 
@@ -148,10 +148,10 @@ stays m cost own small low (inr same) = omega arith
 
 pub best_pairs : (table : List ℕ) (es : List Element) (place : ℕ) (latch fnc4 shift : Bool) (end own by_100 by_101 fnc1 m0 m1 m2 best : ℕ)
     → IsBest [] es (stand place (made C latch fnc4 shift)) 0 end
-    → own ≡ cost_through table es (stand place (made C latch fnc4 shift)) (own_of es (stand place (made C latch fnc4 shift)))
-    → by_100 ≡ 1 + kept_cost table (stand place (made B latch fnc4 shift))
-    → by_101 ≡ 1 + kept_cost table (stand place (made A latch fnc4 shift))
-    → fnc1 ≡ cost_through table es (stand place (made C latch fnc4 shift)) 102
+    → own ≡ values_through table es (stand place (made C latch fnc4 shift)) (own_of es (stand place (made C latch fnc4 shift)))
+    → by_100 ≡ 1 + kept_values table (stand place (made B latch fnc4 shift))
+    → by_101 ≡ 1 + kept_values table (stand place (made A latch fnc4 shift))
+    → fnc1 ≡ values_through table es (stand place (made C latch fnc4 shift)) 102
     → m0 ≡ min end own → m1 ≡ min m0 by_100 → m2 ≡ min m1 by_101 → best ≡ min m2 fnc1
     → IsBest table es (stand place (made C latch fnc4 shift)) 103 best
 unfolding act_of act_in_c silent_if

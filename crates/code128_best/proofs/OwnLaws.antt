@@ -10,8 +10,8 @@ use Rattle.code128_best.specs.declared.state.State.{State}
 use Rattle.code128_best.specs.declared.effect.Effect.{Effect}
 use Rattle.code128_best.specs.declared.effect.Spelled.TheVariants.{Digits}
 use Rattle.code128_best.specs.declared.stepping.Stand.{Stand}
-use Rattle.code128_best.specs.Values.{character_in, reading_set, reads_high, character_of, character_effect, spent, act_in_a, act_in_b, act_in_c, act_of, spelled_count}
-use Rattle.code128_best.specs.Steps.{is_byte, stands_at, follow, value_step, is_end, kept_cost, next_cost, cost_through}
+use Rattle.code128_best.specs.Values.{character_of_set, reading_set, reads_high, character_of, character_effect, spent, act_in_a, act_in_b, act_in_c, act_of, spelled_count}
+use Rattle.code128_best.specs.Steps.{is_byte, stands_at, follow, value_step, is_end, kept_values, next_cost, values_through}
 use Rattle.code128_best.specs.Own.{set_value, value_by, value_of_byte, digit_of, value_of_pair, own_of, set_has_character, set_has_byte, element_fits, is_digit, text_step, pair_step, own_step_of}
 use Rattle.code128_best.specs.Costs.{IsOwn, IsBest, IsStable}
 use Rattle.code128_best.specs.Picks.{IsPick}
@@ -44,25 +44,25 @@ pair_small : (first second : Option Element) → value_of_pair first second < 10
 unfolding value_of_pair
 pair_small first second = omega (arith, digit_small first, digit_small second)
 
-in_back : (set : CodeSet) (value : ℕ) → value < 96 → set_value set (character_in set value) ≡ value
-unfolding set_value character_in
+in_back : (set : CodeSet) (value : ℕ) → value < 96 → set_value set (character_of_set set value) ≡ value
+unfolding set_value character_of_set
 in_back A value below = grind (arith, nat_tests)
 in_back B value below = grind (arith, nat_tests)
 in_back C value below = grind (arith, nat_tests)
 
-in_small : (set : CodeSet) (value : ℕ) → value < 96 → character_in set value < 128
-unfolding character_in
+in_small : (set : CodeSet) (value : ℕ) → value < 96 → character_of_set set value < 128
+unfolding character_of_set
 in_small A value below = grind (arith, nat_tests)
 in_small B value below = grind (arith, nat_tests)
 in_small C value below = omega arith
 
-by_back : (high : Bool) (set : CodeSet) (value : ℕ) → value < 96 → value_by high set (cond high (character_in set value + 128) (character_in set value)) ≡ value
+by_back : (high : Bool) (set : CodeSet) (value : ℕ) → value < 96 → value_by high set (cond high (character_of_set set value + 128) (character_of_set set value)) ≡ value
 unfolding value_by
 by_back true set value below =
-    cond-false (nat_lt (character_in set value + 128) 128) 0 (set_value set (character_in set value + 128 - 128)) (grind (arith, nat_tests))
-    ∙ ap (set_value set) (let e : character_in set value + 128 - 128 ≡ character_in set value = omega arith in e) ∙ in_back set value below
+    cond-false (nat_lt (character_of_set set value + 128) 128) 0 (set_value set (character_of_set set value + 128 - 128)) (grind (arith, nat_tests))
+    ∙ ap (set_value set) (let e : character_of_set set value + 128 - 128 ≡ character_of_set set value = omega arith in e) ∙ in_back set value below
 by_back false set value below =
-    cond-true (nat_lt (character_in set value) 128) (set_value set (character_in set value)) 0 (lt-ltb (character_in set value) 128 (in_small set value below)) ∙ in_back set value below
+    cond-true (nat_lt (character_of_set set value) 128) (set_value set (character_of_set set value)) 0 (lt-ltb (character_of_set set value) 128 (in_small set value below)) ∙ in_back set value below
 
 byte_only : (o : Option Element) (s : State) (value : ℕ) → value < 96 → is_byte o (character_of s value) ≡ true → value ≡ value_of_byte o s
 unfolding value_of_byte character_of
@@ -179,8 +179,8 @@ own_is es at = record {
   only = λ value below. own_only es at.place at.state.set at.state.latch at.state.fnc4 at.state.shift value below;
 }
 
-by_fits : (high : Bool) (set : CodeSet) (byte : ℕ) → (cond high (character_in set (value_by high set byte) + 128) (character_in set (value_by high set byte)) == byte) ≡ set_has_byte high set byte
-unfolding value_by set_value character_in set_has_byte set_has_character
+by_fits : (high : Bool) (set : CodeSet) (byte : ℕ) → (cond high (character_of_set set (value_by high set byte) + 128) (character_of_set set (value_by high set byte)) == byte) ≡ set_has_byte high set byte
+unfolding value_by set_value character_of_set set_has_byte set_has_character
 by_fits true A byte = grind (arith, nat_tests)
 by_fits true B byte = grind (arith, nat_tests)
 by_fits true C byte = grind (arith, nat_tests)
@@ -251,15 +251,15 @@ is_min a b least is =
 late_cases : (value : ℕ) → 98 ≤ value → value < 103 → (value ≡ 98) ⊎ (value ≡ 99) ⊎ (value ≡ 100) ⊎ (value ≡ 101) ⊎ (value ≡ 102)
 late_cases value low high = grind arith
 
-pub none_dear : (table : List ℕ) (es : List Element) (at : Stand) (value : ℕ) → value_step es at value ≡ None → cost_through table es at value ≡ 1000
-unfolding cost_through next_cost
+pub none_dear : (table : List ℕ) (es : List Element) (at : Stand) (value : ℕ) → value_step es at value ≡ None → values_through table es at value ≡ 1000
+unfolding values_through next_cost
 none_dear table es at value none = ap (next_cost table) none
 
 -- no cost, that of the end, or that through a value
 abbrev IsSome : (table : List ℕ) (es : List Element) (at : Stand) (best : ℕ) → Type 0
-IsSome table es at best = (best ≡ 1000) ⊎ ((is_end es at ≡ true) × (best ≡ 0)) ⊎ ((value : ℕ) × (value < 103) × (best ≡ cost_through table es at value))
+IsSome table es at best = (best ≡ 1000) ⊎ ((is_end es at ≡ true) × (best ≡ 0)) ⊎ ((value : ℕ) × (value < 103) × (best ≡ values_through table es at value))
 
-some_more : (table : List ℕ) (es : List Element) (at : Stand) (value best more next : ℕ) → IsSome table es at best → value < 103 → more ≡ cost_through table es at value → IsMin best more next
+some_more : (table : List ℕ) (es : List Element) (at : Stand) (value best more next : ℕ) → IsSome table es at best → value < 103 → more ≡ values_through table es at value → IsMin best more next
     → IsSome table es at next
 some_more table es at value best more next some below is least =
     elim least.is [
@@ -271,7 +271,7 @@ some_start : (table : List ℕ) (es : List Element) (at : Stand) (best : ℕ) �
 some_start table es at best b = elim b.reached [ inl none ↦ inl none | inr (inl at_end) ↦ inr (inl at_end) | inr (inr (value, below, is)) ↦ absurd (omega arith) ]
 
 least_by : (table : List ℕ) (es : List Element) (at : Stand) (own end t0 t1 t2 t3 t4 t5 m0 m1 m2 m3 m4 m5 : ℕ) → IsBest [] es at 0 end → IsOwn es at own
-    → t0 ≡ cost_through table es at own → t1 ≡ cost_through table es at 98 → t2 ≡ cost_through table es at 99 → t3 ≡ cost_through table es at 100 → t4 ≡ cost_through table es at 101 → t5 ≡ cost_through table es at 102
+    → t0 ≡ values_through table es at own → t1 ≡ values_through table es at 98 → t2 ≡ values_through table es at 99 → t3 ≡ values_through table es at 100 → t4 ≡ values_through table es at 101 → t5 ≡ values_through table es at 102
     → IsMin end t0 m0 → IsMin m0 t1 m1 → IsMin m1 t2 m2 → IsMin m2 t3 m3 → IsMin m3 t4 m4 → IsMin m4 t5 m5 → IsBest table es at 103 m5
 least_by table es at own end t0 t1 t2 t3 t4 t5 m0 m1 m2 m3 m4 m5 b o e0 e1 e2 e3 e4 e5 i0 i1 i2 i3 i4 i5 =
     let l0 = i0.left in let l1 = i1.left in let l2 = i2.left in let l3 = i3.left in let l4 = i4.left in let l5 = i5.left in
@@ -282,14 +282,14 @@ least_by table es at own end t0 t1 t2 t3 t4 t5 m0 m1 m2 m3 m4 m5 b o e0 e1 e2 e3
       ended = λ h. let z = b.ended h in omega arith;
       few = λ value below.
           elim (o.only value below) [
-            | inl same ↦ subst (λ (v : ℕ). m5 ≤ cost_through table es at v) (sym same) (omega arith)
+            | inl same ↦ subst (λ (v : ℕ). m5 ≤ values_through table es at v) (sym same) (omega arith)
             | inr (inl none) ↦ let dear = none_dear table es at value none in omega arith
             | inr (inr (late, after)) ↦ elim (late_cases value late below) [
-              | inl same ↦ subst (λ (v : ℕ). m5 ≤ cost_through table es at v) (sym same) (omega arith)
-              | inr (inl same) ↦ subst (λ (v : ℕ). m5 ≤ cost_through table es at v) (sym same) (omega arith)
-              | inr (inr (inl same)) ↦ subst (λ (v : ℕ). m5 ≤ cost_through table es at v) (sym same) (omega arith)
-              | inr (inr (inr (inl same))) ↦ subst (λ (v : ℕ). m5 ≤ cost_through table es at v) (sym same) (omega arith)
-              | inr (inr (inr (inr same))) ↦ subst (λ (v : ℕ). m5 ≤ cost_through table es at v) (sym same) (omega arith)
+              | inl same ↦ subst (λ (v : ℕ). m5 ≤ values_through table es at v) (sym same) (omega arith)
+              | inr (inl same) ↦ subst (λ (v : ℕ). m5 ≤ values_through table es at v) (sym same) (omega arith)
+              | inr (inr (inl same)) ↦ subst (λ (v : ℕ). m5 ≤ values_through table es at v) (sym same) (omega arith)
+              | inr (inr (inr (inl same))) ↦ subst (λ (v : ℕ). m5 ≤ values_through table es at v) (sym same) (omega arith)
+              | inr (inr (inr (inr same))) ↦ subst (λ (v : ℕ). m5 ≤ values_through table es at v) (sym same) (omega arith)
             ]
           ];
       reached =
@@ -303,7 +303,7 @@ least_by table es at own end t0 t1 t2 t3 t4 t5 m0 m1 m2 m3 m4 m5 b o e0 e1 e2 e3
     }
 
 pub least_all : (table : List ℕ) (es : List Element) (at : Stand) (own end t0 t1 t2 t3 t4 t5 m0 m1 m2 m3 m4 m5 : ℕ) → IsBest [] es at 0 end → IsOwn es at own
-    → t0 ≡ cost_through table es at own → t1 ≡ cost_through table es at 98 → t2 ≡ cost_through table es at 99 → t3 ≡ cost_through table es at 100 → t4 ≡ cost_through table es at 101 → t5 ≡ cost_through table es at 102
+    → t0 ≡ values_through table es at own → t1 ≡ values_through table es at 98 → t2 ≡ values_through table es at 99 → t3 ≡ values_through table es at 100 → t4 ≡ values_through table es at 101 → t5 ≡ values_through table es at 102
     → m0 ≡ min end t0 → m1 ≡ min m0 t1 → m2 ≡ min m1 t2 → m3 ≡ min m2 t3 → m4 ≡ min m3 t4 → m5 ≡ min m4 t5 → IsBest table es at 103 m5
 least_all table es at own end t0 t1 t2 t3 t4 t5 m0 m1 m2 m3 m4 m5 b o e0 e1 e2 e3 e4 e5 i0 i1 i2 i3 i4 i5 =
     least_by table es at own end t0 t1 t2 t3 t4 t5 m0 m1 m2 m3 m4 m5 b o e0 e1 e2 e3 e4 e5 (is_min end t0 m0 i0) (is_min m0 t1 m1 i1) (is_min m1 t2 m2 i2)
@@ -311,10 +311,10 @@ least_all table es at own end t0 t1 t2 t3 t4 t5 m0 m1 m2 m3 m4 m5 b o e0 e1 e2 e
 
 -- a value through which the cost isn't the least
 abbrev pub IsDear : (table : List ℕ) (es : List Element) (at : Stand) (value : ℕ) → Type 0
-IsDear table es at value = cost_through table es at value ≡ kept_cost table at → ⊥
+IsDear table es at value = values_through table es at value ≡ kept_values table at → ⊥
 
 -- the value's own, where the cost is the least through it
-pub pick_own : (table : List ℕ) (es : List Element) (at : Stand) (own : ℕ) → IsOwn es at own → kept_cost table at < 1000 → cost_through table es at own ≡ kept_cost table at → IsPick table es at own
+pub pick_own : (table : List ℕ) (es : List Element) (at : Stand) (own : ℕ) → IsOwn es at own → kept_values table at < 1000 → values_through table es at own ≡ kept_values table at → IsPick table es at own
 pick_own table es at own o known cheap = record {
   below = let b = o.below in omega arith;
   cheapest = cheap;
@@ -327,45 +327,45 @@ pick_own table es at own o known cheap = record {
 }
 
 -- else the first of the others
-pub pick_late : (table : List ℕ) (es : List Element) (at : Stand) (own value : ℕ) → IsOwn es at own → kept_cost table at < 1000 → IsDear table es at own
+pub pick_late : (table : List ℕ) (es : List Element) (at : Stand) (own value : ℕ) → IsOwn es at own → kept_values table at < 1000 → IsDear table es at own
     → (98 < value → IsDear table es at 98) → (99 < value → IsDear table es at 99) → (100 < value → IsDear table es at 100) → (101 < value → IsDear table es at 101)
-    → value < 103 → cost_through table es at value ≡ kept_cost table at → IsPick table es at value
+    → value < 103 → values_through table es at value ≡ kept_values table at → IsPick table es at value
 pick_late table es at own value o known dear d0 d1 d2 d3 below cheap = record {
   below = below;
   cheapest = cheap;
   earlier = λ other less same.
       elim (o.only other (omega arith)) [
-        | inl own ↦ dear (subst (λ (v : ℕ). cost_through table es at v ≡ kept_cost table at) own same)
+        | inl own ↦ dear (subst (λ (v : ℕ). values_through table es at v ≡ kept_values table at) own same)
         | inr (inl none) ↦ let dear = none_dear table es at other none in omega arith
         | inr (inr (late, after)) ↦ elim (late_cases other late (omega arith)) [
-          | inl is ↦ d0 (omega arith) (subst (λ (v : ℕ). cost_through table es at v ≡ kept_cost table at) is same)
-          | inr (inl is) ↦ d1 (omega arith) (subst (λ (v : ℕ). cost_through table es at v ≡ kept_cost table at) is same)
-          | inr (inr (inl is)) ↦ d2 (omega arith) (subst (λ (v : ℕ). cost_through table es at v ≡ kept_cost table at) is same)
-          | inr (inr (inr (inl is))) ↦ d3 (omega arith) (subst (λ (v : ℕ). cost_through table es at v ≡ kept_cost table at) is same)
+          | inl is ↦ d0 (omega arith) (subst (λ (v : ℕ). values_through table es at v ≡ kept_values table at) is same)
+          | inr (inl is) ↦ d1 (omega arith) (subst (λ (v : ℕ). values_through table es at v ≡ kept_values table at) is same)
+          | inr (inr (inl is)) ↦ d2 (omega arith) (subst (λ (v : ℕ). values_through table es at v ≡ kept_values table at) is same)
+          | inr (inr (inr (inl is))) ↦ d3 (omega arith) (subst (λ (v : ℕ). values_through table es at v ≡ kept_values table at) is same)
           | inr (inr (inr (inr is))) ↦ omega arith
         ]
       ];
 }
 
 -- where no other will do, the last
-pub last_cheap : (table : List ℕ) (es : List Element) (at : Stand) (own : ℕ) → IsOwn es at own → kept_cost table at < 1000
-    → ((value : ℕ) × (value < 103) × (cost_through table es at value ≡ kept_cost table at)) → IsDear table es at own
-    → IsDear table es at 98 → IsDear table es at 99 → IsDear table es at 100 → IsDear table es at 101 → cost_through table es at 102 ≡ kept_cost table at
+pub last_cheap : (table : List ℕ) (es : List Element) (at : Stand) (own : ℕ) → IsOwn es at own → kept_values table at < 1000
+    → ((value : ℕ) × (value < 103) × (values_through table es at value ≡ kept_values table at)) → IsDear table es at own
+    → IsDear table es at 98 → IsDear table es at 99 → IsDear table es at 100 → IsDear table es at 101 → values_through table es at 102 ≡ kept_values table at
 last_cheap table es at own o known (value, below, cheap) dear d0 d1 d2 d3 =
     elim (o.only value below) [
-      | inl own ↦ absurd (dear (subst (λ (v : ℕ). cost_through table es at v ≡ kept_cost table at) own cheap))
+      | inl own ↦ absurd (dear (subst (λ (v : ℕ). values_through table es at v ≡ kept_values table at) own cheap))
       | inr (inl none) ↦ absurd (let dear = none_dear table es at value none in omega arith)
       | inr (inr (late, after)) ↦ elim (late_cases value late below) [
-        | inl is ↦ absurd (d0 (subst (λ (v : ℕ). cost_through table es at v ≡ kept_cost table at) is cheap))
-        | inr (inl is) ↦ absurd (d1 (subst (λ (v : ℕ). cost_through table es at v ≡ kept_cost table at) is cheap))
-        | inr (inr (inl is)) ↦ absurd (d2 (subst (λ (v : ℕ). cost_through table es at v ≡ kept_cost table at) is cheap))
-        | inr (inr (inr (inl is))) ↦ absurd (d3 (subst (λ (v : ℕ). cost_through table es at v ≡ kept_cost table at) is cheap))
-        | inr (inr (inr (inr is))) ↦ subst (λ (v : ℕ). cost_through table es at v ≡ kept_cost table at) is cheap
+        | inl is ↦ absurd (d0 (subst (λ (v : ℕ). values_through table es at v ≡ kept_values table at) is cheap))
+        | inr (inl is) ↦ absurd (d1 (subst (λ (v : ℕ). values_through table es at v ≡ kept_values table at) is cheap))
+        | inr (inr (inl is)) ↦ absurd (d2 (subst (λ (v : ℕ). values_through table es at v ≡ kept_values table at) is cheap))
+        | inr (inr (inr (inl is))) ↦ absurd (d3 (subst (λ (v : ℕ). values_through table es at v ≡ kept_values table at) is cheap))
+        | inr (inr (inr (inr is))) ↦ subst (λ (v : ℕ). values_through table es at v ≡ kept_values table at) is cheap
       ]
     ]
 
 -- a stand whose cost is no higher than through any value
-pub stable_at : (table : List ℕ) (es : List Element) (at : Stand) (best : ℕ) → IsBest table es at 103 best → kept_cost table at ≤ best → IsStable table es at
+pub stable_at : (table : List ℕ) (es : List Element) (at : Stand) (best : ℕ) → IsBest table es at 103 best → kept_values table at ≤ best → IsStable table es at
 stable_at table es at best b low = record {
   ended = λ h. let z = b.ended h in omega arith;
   few = λ value below. let f = b.few value below in omega arith;

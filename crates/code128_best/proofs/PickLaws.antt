@@ -7,7 +7,7 @@ use Rattle.code128_best.specs.declared.state.State.{State}
 use Rattle.code128_best.specs.declared.stepping.Stand.{Stand}
 use Rattle.code128_best.specs.Values.{spelled_elements, spelled_count, is_free}
 use Rattle.code128_best.specs.Spelling.{ValuesSpell, ended, onward, ValuesPrecede, differ, AreFirstValues}
-use Rattle.code128_best.specs.Steps.{is_end, kept_cost, next_cost, cost_through, value_step}
+use Rattle.code128_best.specs.Steps.{is_end, kept_values, next_cost, values_through, value_step}
 use Rattle.code128_best.specs.Costs.{IsReached, IsSettled}
 use Rattle.code128_best.specs.Picks.{IsPick}
 use Rattle.code128_best.specs.Rules.{Acts}
@@ -17,8 +17,8 @@ use Rattle.code128_best.proofs.TableLaws.{spells_more}
 use Rattle.code128_best.proofs.BoundLaws.{act_small}
 use Rattle.code128_best.proofs.Order.{ValuesPrecede-behind, ValuesPrecede-length, ValuesPrecede-nil}
 
-pub through_step : (table : List ℕ) (es : List Element) (at next : Stand) (value : ℕ) → value_step es at value ≡ Some next → cost_through table es at value ≡ 1 + kept_cost table next
-unfolding cost_through next_cost
+pub through_step : (table : List ℕ) (es : List Element) (at next : Stand) (value : ℕ) → value_step es at value ≡ Some next → values_through table es at value ≡ 1 + kept_values table next
+unfolding values_through next_cost
 through_step table es at next value h = ap (next_cost table) h
 
 ends_here : (es : List Element) (place : ℕ) (state : State) → place ≤ length es → [] ≡ drop place es → is_free state ≡ true → is_end es (record { place = place; state = state }) ≡ true
@@ -63,7 +63,7 @@ onward_step es rest at value after spelled values acts spells is =
 module _ (table : List ℕ) (es : List Element) (settled : IsSettled table es) where
   -- no spelling has fewer values than the cost
   pub cost_least : {state : State} {values : List ℕ} {rest : List Element} (place : ℕ) → place ≤ length es → ValuesSpell state values rest → rest ≡ drop place es
-      → kept_cost table (record { place = place; state = state }) ≤ length values
+      → kept_values table (record { place = place; state = state }) ≤ length values
   cost_least {state = state} place within (ended free) is =
       omega (arith, settled.ended (record { place = place; state = state }) within (ends_here es place state within is free))
   cost_least {state = state} place within (onward {next = after} {value = value} {values = values} {spelled = spelled} {elements = rest} acts spells) is =
@@ -79,8 +79,8 @@ module _ (table : List ℕ) (es : List Element) (settled : IsSettled table es) w
       )
 
   -- the first spelling of a rest has as many values as the cost
-  pub first_counted : (at : Stand) (values : List ℕ) → at.place ≤ length es → kept_cost table at < 1000 → AreFirstValues at.state (drop at.place es) values
-      → length values ≡ kept_cost table at
+  pub first_counted : (at : Stand) (values : List ℕ) → at.place ≤ length es → kept_values table at < 1000 → AreFirstValues at.state (drop at.place es) values
+      → length values ≡ kept_values table at
   first_counted at values within known first =
       elim (settled.reached at within) [
         | inl none ↦ absurd (omega arith)
@@ -88,8 +88,8 @@ module _ (table : List ℕ) (es : List Element) (settled : IsSettled table es) w
             omega (arith, cost_least at.place within first.spells refl, ValuesPrecede-length values others (first.first others spells))
       ]
 
-  there_from : (at : Stand) {state : State} {values : List ℕ} {rest : List Element} → at.place ≤ length es → 0 < kept_cost table at → length values ≤ kept_cost table at
-      → ValuesSpell state values rest → state ≡ at.state → rest ≡ drop at.place es → (value : ℕ) × (value < 103) × (cost_through table es at value ≡ kept_cost table at)
+  there_from : (at : Stand) {state : State} {values : List ℕ} {rest : List Element} → at.place ≤ length es → 0 < kept_values table at → length values ≤ kept_values table at
+      → ValuesSpell state values rest → state ≡ at.state → rest ≡ drop at.place es → (value : ℕ) × (value < 103) × (values_through table es at value ≡ kept_values table at)
   there_from at within some few (ended free) same is =
       absurd (omega (
         arith,
@@ -108,16 +108,16 @@ module _ (table : List ℕ) (es : List Element) (settled : IsSettled table es) w
       )
 
   -- before the end there is a pick
-  pub pick_there : (at : Stand) → at.place ≤ length es → 0 < kept_cost table at → kept_cost table at < 1000
-      → (value : ℕ) × (value < 103) × (cost_through table es at value ≡ kept_cost table at)
+  pub pick_there : (at : Stand) → at.place ≤ length es → 0 < kept_values table at → kept_values table at < 1000
+      → (value : ℕ) × (value < 103) × (values_through table es at value ≡ kept_values table at)
   pick_there at within some known =
       elim (settled.reached at within) [
         | inl none ↦ absurd (omega arith)
         | inr (values, spells, counted) ↦ there_from at within some (omega arith) spells refl refl
       ]
 
-  pick_before : (at next : Stand) (value : ℕ) (values others : List ℕ) {state : State} {rest : List Element} → at.place ≤ length es → 0 < kept_cost table at
-      → IsPick table es at value → value_step es at value ≡ Some next → AreFirstValues next.state (drop next.place es) values → length values ≡ kept_cost table next
+  pick_before : (at next : Stand) (value : ℕ) (values others : List ℕ) {state : State} {rest : List Element} → at.place ≤ length es → 0 < kept_values table at
+      → IsPick table es at value → value_step es at value ≡ Some next → AreFirstValues next.state (drop next.place es) values → length values ≡ kept_values table next
       → ValuesSpell state others rest → state ≡ at.state → rest ≡ drop at.place es → ValuesPrecede (value ∷ values) others
   pick_before at next value values others within some pick steps first counted (ended free) same is =
       absurd (omega (
@@ -127,9 +127,9 @@ module _ (table : List ℕ) (es : List Element) (settled : IsSettled table es) w
   pick_before at next value values others {state = state} within some pick steps first counted
       (onward {next = after} {value = other} {values = rest_values} {spelled = spelled} {elements = rest} acts spells) same is =
       let on = onward_step es rest at other after spelled rest_values (subst (λ (s : State). Acts s other after spelled) same acts) spells is in
-      let least : kept_cost table on.next ≤ length rest_values = cost_least on.next.place (step_within es at other on.next within on.steps) on.spells refl in
-      let cost_here : cost_through table es at value ≡ 1 + kept_cost table next = through_step table es at next value steps in
-      let cost_other : cost_through table es at other ≡ 1 + kept_cost table on.next = through_step table es at on.next other on.steps in
+      let least : kept_values table on.next ≤ length rest_values = cost_least on.next.place (step_within es at other on.next within on.steps) on.spells refl in
+      let cost_here : values_through table es at value ≡ 1 + kept_values table next = through_step table es at next value steps in
+      let cost_other : values_through table es at other ≡ 1 + kept_values table on.next = through_step table es at on.next other on.steps in
       let low = settled.few at other within on.below in
       let cheap = pick.cheapest in
       elim (cases_lt (length values) (length rest_values)) [
@@ -145,11 +145,11 @@ module _ (table : List ℕ) (es : List Element) (settled : IsSettled table es) w
       ]
 
   -- a pick and the first values of the rest are the first of the whole
-  pub pick_first : (at next : Stand) (value : ℕ) (values : List ℕ) → at.place ≤ length es → 0 < kept_cost table at → kept_cost table at < 1000
+  pub pick_first : (at next : Stand) (value : ℕ) (values : List ℕ) → at.place ≤ length es → 0 < kept_values table at → kept_values table at < 1000
       → IsPick table es at value → value_step es at value ≡ Some next → AreFirstValues next.state (drop next.place es) values
       → AreFirstValues at.state (drop at.place es) (value ∷ values)
   pick_first at next value values within some known pick steps first =
-      let counted : length values ≡ kept_cost table next = first_counted next values (step_within es at value next within steps)
+      let counted : length values ≡ kept_values table next = first_counted next values (step_within es at value next within steps)
       (omega (arith, pick.cheapest, through_step table es at next value steps)) first in
       record {
         spells = spells_more es at next value values steps first.spells;
@@ -157,10 +157,10 @@ module _ (table : List ℕ) (es : List Element) (settled : IsSettled table es) w
       }
 
   -- at the end nothing is the first
-  pub end_first : (at : Stand) → at.place ≤ length es → kept_cost table at ≡ 0 → AreFirstValues at.state (drop at.place es) []
+  pub end_first : (at : Stand) → at.place ≤ length es → kept_values table at ≡ 0 → AreFirstValues at.state (drop at.place es) []
   end_first at within none =
       record { spells = end_spells at within none (settled.reached at within); first = λ others spells. ValuesPrecede-nil others } where
-        end_spells : (at : Stand) → at.place ≤ length es → kept_cost table at ≡ 0 → IsReached es at (kept_cost table at) → ValuesSpell at.state [] (drop at.place es)
+        end_spells : (at : Stand) → at.place ≤ length es → kept_values table at ≡ 0 → IsReached es at (kept_values table at) → ValuesSpell at.state [] (drop at.place es)
         end_spells at within none (inl dear) = absurd (omega arith)
         end_spells at within none (inr ([], spells, counted)) = spells
         end_spells at within none (inr (value ∷ values, spells, counted)) = absurd (omega arith)

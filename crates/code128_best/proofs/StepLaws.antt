@@ -10,7 +10,7 @@ use Rattle.code128_best.specs.declared.effect.Spelled.TheVariants.{Nothing, Char
 use Rattle.code128_best.specs.declared.effect.Effect.{Effect}
 use Rattle.code128_best.specs.declared.stepping.Stand.{Stand}
 use Rattle.code128_best.specs.Values.{act_of, spelled_elements, spelled_count}
-use Rattle.code128_best.specs.Steps.{is_byte, is_fnc1, stands_at, follow, value_step}
+use Rattle.code128_best.specs.Steps.{is_byte, is_fnc1_element, stands_at, follow, value_step}
 
 slice_get-zero : (es : List Element) (place : ℕ) → slice_get es place ≡ slice_get (drop place es) 0
 slice_get-zero es zero = refl
@@ -33,8 +33,8 @@ byte_has : (byte : ℕ) → is_byte (Some (element.Byte byte)) byte ≡ true
 unfolding is_byte
 byte_has byte = eq-eqb byte byte refl
 
-fnc1_is : (o : Option Element) → is_fnc1 o ≡ true → o ≡ Some element.Fnc1
-unfolding is_fnc1
+fnc1_is : (o : Option Element) → is_fnc1_element o ≡ true → o ≡ Some element.Fnc1
+unfolding is_fnc1_element
 fnc1_is None h = absurd (cc)
 fnc1_is (Some (element.Byte other)) h = absurd (cc)
 fnc1_is (Some (element.Eci number)) h = absurd (cc)
@@ -59,7 +59,7 @@ stands_splits Fnc1 es place h = drop_here es place element.Fnc1 (fnc1_is (slice_
 
 -- and what is in front of the rest stands there
 pub splits_stands : (spelled : Spelled) (es rest : List Element) (place : ℕ) → drop place es ≡ spelled_elements spelled ++ rest → stands_at spelled es place ≡ true
-unfolding stands_at spelled_elements is_fnc1
+unfolding stands_at spelled_elements is_fnc1_element
 splits_stands Nothing es rest place h = refl
 splits_stands (Character byte) es rest place h =
     ap (λ (o : Option Element). is_byte o byte) (slice_get-zero es place ∙ ap (λ (xs : List Element). slice_get xs 0) h) ∙ byte_has byte
@@ -67,7 +67,7 @@ splits_stands (Digits a b) es rest place h =
     ap (λ (o : Option Element). is_byte o a && is_byte (slice_get es (place + 1)) b) (slice_get-zero es place ∙ ap (λ (xs : List Element). slice_get xs 0) h)
     ∙ ap (λ (t : Bool). t && is_byte (slice_get es (place + 1)) b) (byte_has a)
     ∙ ap (λ (o : Option Element). is_byte o b) (slice_get-one es place ∙ ap (λ (xs : List Element). slice_get xs 1) h) ∙ byte_has b
-splits_stands Fnc1 es rest place h = ap is_fnc1 (slice_get-zero es place ∙ ap (λ (xs : List Element). slice_get xs 0) h)
+splits_stands Fnc1 es rest place h = ap is_fnc1_element (slice_get-zero es place ∙ ap (λ (xs : List Element). slice_get xs 0) h)
 
 elements_of-length : (spelled : Spelled) → length (spelled_elements spelled) ≡ spelled_count spelled
 unfolding spelled_elements spelled_count

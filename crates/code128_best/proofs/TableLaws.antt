@@ -11,7 +11,7 @@ use Rattle.code128_best.specs.declared.state.State.{State}
 use Rattle.code128_best.specs.declared.stepping.Stand.{Stand}
 use Rattle.code128_best.specs.States.{set_number, state_number, numbered_set, numbered_state}
 use Rattle.code128_best.specs.Spelling.{ValuesSpell, ended, onward}
-use Rattle.code128_best.specs.Steps.{is_end, stand_of, kept_cost, next_cost, cost_through, value_step}
+use Rattle.code128_best.specs.Steps.{is_end, stand_of, kept_values, next_cost, values_through, value_step}
 use Rattle.code128_best.specs.Values.{is_free, spelled_count}
 use Rattle.code128_best.specs.Costs.{IsReached, IsTable, IsBest, IsStable, IsStableAt, IsSettled}
 use Rattle.code128_best.proofs.RuleLaws.{effect_acts}
@@ -73,8 +73,8 @@ pub index_within : (n : ℕ) (at : Stand) → at.place ≤ n → 24 * at.place +
 index_within n at within = let small = number_small at.state in omega arith
 
 -- the cost kept for a stand is reached
-pub table_reached : (table : List ℕ) (es : List Element) → IsTable table es → (at : Stand) → at.place ≤ length es → IsReached es at (kept_cost table at)
-unfolding kept_cost
+pub table_reached : (table : List ℕ) (es : List Element) → IsTable table es → (at : Stand) → at.place ≤ length es → IsReached es at (kept_values table at)
+unfolding kept_values
 table_reached table es t at within =
     let inside = index_within (length es) at within in
     subst (λ (x : Stand). IsReached es x (slice_index table (24 * at.place + state_number at.state))) (stand_back at)
@@ -117,7 +117,7 @@ through_reached table es t at value within best small (Some next) h is =
     ]
 
 pub best_reached : (table : List ℕ) (es : List Element) → IsTable table es → (at : Stand) → at.place ≤ length es → (best : ℕ) → IsBest table es at 103 best → IsReached es at best
-unfolding cost_through
+unfolding values_through
 best_reached table es t at within best b =
     elim b.reached [
       | inl none ↦ inl none
@@ -140,7 +140,7 @@ min_is a b = grind arith
 below_or_at : (j n : ℕ) → j < n + 1 → (j < n) ⊎ (j ≡ n)
 below_or_at j n below = grind arith
 
-pub best_more : (table : List ℕ) (es : List Element) (at : Stand) (value best more next : ℕ) → IsBest table es at value best → more ≡ cost_through table es at value → next ≡ min best more
+pub best_more : (table : List ℕ) (es : List Element) (at : Stand) (value best more next : ℕ) → IsBest table es at value best → more ≡ values_through table es at value → next ≡ min best more
     → IsBest table es at (value + 1) next
 best_more table es at value best more next b is least = record {
   small = let s = b.small in omega arith;
@@ -148,13 +148,13 @@ best_more table es at value best more next b is least = record {
   few = λ other below.
       elim (below_or_at other value below) [
         | inl less ↦ let f = b.few other less in omega arith
-        | inr here ↦ subst (λ (v : ℕ). next ≤ cost_through table es at v) (sym here) (omega arith)
+        | inr here ↦ subst (λ (v : ℕ). next ≤ values_through table es at v) (sym here) (omega arith)
       ];
   reached =
       elim (min_is best more) [
         | inl kept ↦ let same : best ≡ next = sym (least ∙ kept) in
-            subst (λ (c : ℕ). (c ≡ 1000) ⊎ ((is_end es at ≡ true) × (c ≡ 0)) ⊎ ((v : ℕ) × (v < value + 1) × (c ≡ cost_through table es at v))) same
-            (elim b.reached as (λ _. (best ≡ 1000) ⊎ ((is_end es at ≡ true) × (best ≡ 0)) ⊎ ((v : ℕ) × (v < value + 1) × (best ≡ cost_through table es at v)))
+            subst (λ (c : ℕ). (c ≡ 1000) ⊎ ((is_end es at ≡ true) × (c ≡ 0)) ⊎ ((v : ℕ) × (v < value + 1) × (c ≡ values_through table es at v))) same
+            (elim b.reached as (λ _. (best ≡ 1000) ⊎ ((is_end es at ≡ true) × (best ≡ 0)) ⊎ ((v : ℕ) × (v < value + 1) × (best ≡ values_through table es at v)))
             [ inl none ↦ inl none | inr (inl at_end) ↦ inr (inl at_end) | inr (inr (v, below, here)) ↦ inr (inr (v, omega arith, here)) ])
         | inr new ↦ inr (inr (value, omega arith, least ∙ new ∙ is))
       ];
@@ -244,7 +244,7 @@ swept_more old table new es index false false s t long down stays stable after i
 
 -- where all is stable, all is settled
 settled_all : (old table : List ℕ) (es : List Element) → IsSweptTo old table es 0 false → IsSettled table es
-unfolding kept_cost
+unfolding kept_values
 settled_all old table es s =
     let index_of : Stand → ℕ = λ at. 24 * at.place + state_number at.state in
     let inside : (at : Stand) → at.place ≤ length es → 24 * at.place + state_number at.state < length table =
@@ -254,7 +254,7 @@ settled_all old table es s =
       ended = λ at within h.
           (s.stable refl (24 * at.place + state_number at.state) (omega arith) (inside at within)).ended (subst (λ (x : Stand). is_end es x ≡ true) (sym (stand_back at)) h);
       few = λ at value within below.
-          subst (λ (x : Stand). slice_index table (24 * at.place + state_number at.state) ≤ cost_through table es x value) (stand_back at)
+          subst (λ (x : Stand). slice_index table (24 * at.place + state_number at.state) ≤ values_through table es x value) (stand_back at)
           ((s.stable refl (24 * at.place + state_number at.state) (omega arith) (inside at within)).few value below);
       reached = table_reached table es s.table;
     }

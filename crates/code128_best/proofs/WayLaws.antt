@@ -10,7 +10,7 @@ use Rattle.code128_best.specs.declared.state.CodeSet.TheVariants.{A, B, C}
 use Rattle.code128_best.specs.declared.state.State.{State}
 use Rattle.code128_best.specs.declared.stepping.Stand.{Stand}
 use Rattle.code128_best.specs.Spelling.{ValuesSpell, SymbolSpells, begun, plain, state_after_start, AreFirstValues, AreDrawnValues, ValuesPrecede, differ, IsCode128Element}
-use Rattle.code128_best.specs.Steps.{kept_cost, cost_through, value_step, beginning}
+use Rattle.code128_best.specs.Steps.{kept_values, values_through, value_step, beginning}
 use Rattle.code128_best.specs.Costs.{IsSettled}
 use Rattle.code128_best.specs.Picks.{IsPick, IsBestStart, IsOnWay, AreWholeValues}
 use Rattle.code128_best.proofs.StepLaws.{step_within}
@@ -44,27 +44,27 @@ start_is start state h =
     ]
 
 pub best_of : (table : List ℕ) (start : ℕ) (set : CodeSet) → state_after_start start ≡ Some (plain set)
-    → kept_cost table (beginning (plain set)) ≤ kept_cost table (beginning (plain A)) → kept_cost table (beginning (plain set)) ≤ kept_cost table (beginning (plain B))
-    → kept_cost table (beginning (plain set)) ≤ kept_cost table (beginning (plain C))
-    → (103 < start → kept_cost table (beginning (plain set)) < kept_cost table (beginning (plain A)))
-    → (104 < start → kept_cost table (beginning (plain set)) < kept_cost table (beginning (plain B))) → start < 106 → IsBestStart table start (plain set)
+    → kept_values table (beginning (plain set)) ≤ kept_values table (beginning (plain A)) → kept_values table (beginning (plain set)) ≤ kept_values table (beginning (plain B))
+    → kept_values table (beginning (plain set)) ≤ kept_values table (beginning (plain C))
+    → (103 < start → kept_values table (beginning (plain set)) < kept_values table (beginning (plain A)))
+    → (104 < start → kept_values table (beginning (plain set)) < kept_values table (beginning (plain B))) → start < 106 → IsBestStart table start (plain set)
 best_of table start set is a b c before_a before_b last = record {
   is = is;
   least = λ other others h.
       elim (start_is other others h) [
-        | inl (_, e) ↦ subst (λ (s : State). kept_cost table (beginning (plain set)) ≤ kept_cost table (beginning s)) (sym e) a
-        | inr (inl (_, e)) ↦ subst (λ (s : State). kept_cost table (beginning (plain set)) ≤ kept_cost table (beginning s)) (sym e) b
-        | inr (inr (_, e)) ↦ subst (λ (s : State). kept_cost table (beginning (plain set)) ≤ kept_cost table (beginning s)) (sym e) c
+        | inl (_, e) ↦ subst (λ (s : State). kept_values table (beginning (plain set)) ≤ kept_values table (beginning s)) (sym e) a
+        | inr (inl (_, e)) ↦ subst (λ (s : State). kept_values table (beginning (plain set)) ≤ kept_values table (beginning s)) (sym e) b
+        | inr (inr (_, e)) ↦ subst (λ (s : State). kept_values table (beginning (plain set)) ≤ kept_values table (beginning s)) (sym e) c
       ];
   earlier = λ other others less h.
       elim (start_is other others h) [
-        | inl (n, e) ↦ subst (λ (s : State). kept_cost table (beginning (plain set)) < kept_cost table (beginning s)) (sym e) (before_a (omega arith))
-        | inr (inl (n, e)) ↦ subst (λ (s : State). kept_cost table (beginning (plain set)) < kept_cost table (beginning s)) (sym e) (before_b (omega arith))
+        | inl (n, e) ↦ subst (λ (s : State). kept_values table (beginning (plain set)) < kept_values table (beginning s)) (sym e) (before_a (omega arith))
+        | inr (inl (n, e)) ↦ subst (λ (s : State). kept_values table (beginning (plain set)) < kept_values table (beginning s)) (sym e) (before_b (omega arith))
         | inr (inr (n, e)) ↦ absurd (omega arith)
       ];
 }
 
-pub way_start : (table : List ℕ) (es : List Element) (start : ℕ) (state : State) → start ≤ 105 → kept_cost table (beginning state) < 1000
+pub way_start : (table : List ℕ) (es : List Element) (start : ℕ) (state : State) → start ≤ 105 → kept_values table (beginning state) < 1000
     → IsOnWay table es start state (start ∷ []) (beginning state)
 unfolding beginning
 way_start table es start state small known = record {
@@ -78,10 +78,10 @@ way_start table es start state small known = record {
 }
 
 pub way_more : (table : List ℕ) (es : List Element) → IsSettled table es → (start : ℕ) (state : State) (values : List ℕ) (at next : Stand) (value : ℕ)
-    → IsOnWay table es start state values at → 0 < kept_cost table at → IsPick table es at value → value_step es at value ≡ Some next
+    → IsOnWay table es start state values at → 0 < kept_values table at → IsPick table es at value → value_step es at value ≡ Some next
     → IsOnWay table es start state (values ++ value ∷ []) next
 way_more table es settled start state values at next value way some pick steps =
-    let cost_here : cost_through table es at value ≡ 1 + kept_cost table next = through_step table es at next value steps in
+    let cost_here : values_through table es at value ≡ 1 + kept_values table next = through_step table es at next value steps in
     let cheap = pick.cheapest in
     let known = way.known in
     record {
@@ -97,7 +97,7 @@ way_more table es settled start state values at next value way some pick steps =
     }
 
 pub way_end : (table : List ℕ) (es : List Element) → IsSettled table es → (start : ℕ) (state : State) (values : List ℕ) (at : Stand)
-    → IsOnWay table es start state values at → kept_cost table at ≡ 0 → AreWholeValues table es start state values
+    → IsOnWay table es start state values at → kept_values table at ≡ 0 → AreWholeValues table es start state values
 way_end table es settled start state values at way none = record {
   path = way.path;
   is = way.is;
@@ -112,18 +112,18 @@ start_b = refl
 
 -- the cost of the best start is small
 pub best_small : (table : List ℕ) (es : List Element) → IsSettled table es → (start : ℕ) (state : State) → IsBestStart table start state → All IsElement es → All IsCode128Element es
-    → kept_cost table (beginning state) ≤ 3 * length es
+    → kept_values table (beginning state) ≤ 3 * length es
 unfolding beginning
 best_small table es settled start state best valid spelled =
     let (values, spells, few) = spelled_from_b es valid spelled in
     omega (arith, best.least 104 (plain B) start_b, cost_least table es settled 0 (omega arith) spells refl)
 
 drawn_before : (table : List ℕ) (es : List Element) → IsSettled table es → (start : ℕ) (state : State) (path : List ℕ) {others : List ℕ} {rest : List Element} → IsBestStart table start state
-    → AreFirstValues state es path → length path ≡ kept_cost table (beginning state) → SymbolSpells others rest → rest ≡ es → ValuesPrecede (start ∷ path) others
+    → AreFirstValues state es path → length path ≡ kept_values table (beginning state) → SymbolSpells others rest → rest ≡ es → ValuesPrecede (start ∷ path) others
 unfolding beginning
 drawn_before table es settled start state path best first counted (begun {start = other} {state = others} {values = values} begins spells) same =
     let again : ValuesSpell others values es = subst (λ (xs : List Element). ValuesSpell others values xs) same spells in
-    let least : kept_cost table (beginning others) ≤ length values = cost_least table es settled 0 (omega arith) again refl in
+    let least : kept_values table (beginning others) ≤ length values = cost_least table es settled 0 (omega arith) again refl in
     elim (cases_order start other) [
       | inl equal ↦
           let alike : others ≡ state = let e : Some others ≡ Some state = sym begins ∙ subst (λ (n : ℕ). state_after_start n ≡ Some state) equal best.is in cc in
@@ -152,7 +152,7 @@ drawn_once es values others drawn other = ValuesPrecede-antisym others values (o
 pub start_small : (start : ℕ) (state : State) → state_after_start start ≡ Some state → start ≤ 105
 start_small start state is = elim (start_is start state is) [ inl (e, _) ↦ omega arith | inr (inl (e, _)) ↦ omega arith | inr (inr (e, _)) ↦ omega arith ]
 
-pub whole_few : (table : List ℕ) (es : List Element) (start : ℕ) (state : State) (values : List ℕ) → AreWholeValues table es start state values → kept_cost table (beginning state) ≤ 768
+pub whole_few : (table : List ℕ) (es : List Element) (start : ℕ) (state : State) (values : List ℕ) → AreWholeValues table es start state values → kept_values table (beginning state) ≤ 768
     → (1 ≤ length values) × (length values ≤ 769)
 whole_few table es start state values whole few =
     let e : length values ≡ length (start ∷ whole.path) = ap length whole.is in (omega (arith, whole.counted), omega (arith, whole.counted))

@@ -19,18 +19,18 @@ is_byte (Some (element.Eci number)) byte = false
 is_byte (Some element.Fnc1) byte = false
 
 -- Whether an element is there and is FNC1.
-unfoldable pub is_fnc1 : Option Element → Bool
-is_fnc1 None = false
-is_fnc1 (Some (element.Byte other)) = false
-is_fnc1 (Some (element.Eci number)) = false
-is_fnc1 (Some element.Fnc1) = true
+unfoldable pub is_fnc1_element : Option Element → Bool
+is_fnc1_element None = false
+is_fnc1_element (Some (element.Byte other)) = false
+is_fnc1_element (Some (element.Eci number)) = false
+is_fnc1_element (Some element.Fnc1) = true
 
 -- Whether the elements at a place are those that a value spells.
 unfoldable pub stands_at : Spelled → List Element → (place : ℕ) → Bool
 stands_at Nothing elements place = true
 stands_at (Character byte) elements place = is_byte (slice_get elements place) byte
 stands_at (Digits first second) elements place = is_byte (slice_get elements place) first && is_byte (slice_get elements (place + 1)) second
-stands_at Fnc1 elements place = is_fnc1 (slice_get elements place)
+stands_at Fnc1 elements place = is_fnc1_element (slice_get elements place)
 
 -- The stand after an effect at a place.
 unfoldable pub follow : List Element → (place : ℕ) → Option Effect → Option Stand
@@ -58,17 +58,17 @@ abbrev pub pairs_stand : (place : ℕ) → (latch fnc4 shift : Bool) → Stand
 pairs_stand place latch fnc4 shift = record { place = place; state = record { set = C; latch = latch; fnc4 = fnc4; shift = shift } }
 
 -- The cost kept for a stand.
-unfoldable pub kept_cost : List ℕ → Stand → ℕ
-kept_cost table at = slice_index table (24 * at.place + state_number at.state)
+unfoldable pub kept_values : List ℕ → Stand → ℕ
+kept_values table at = slice_index table (24 * at.place + state_number at.state)
 
 -- The cost through a next stand, if there is one.
 unfoldable pub next_cost : List ℕ → Option Stand → ℕ
 next_cost table None = 1000
-next_cost table (Some next) = 1 + kept_cost table next
+next_cost table (Some next) = 1 + kept_values table next
 
 -- The cost through a value.
-unfoldable pub cost_through : List ℕ → List Element → Stand → (value : ℕ) → ℕ
-cost_through table elements at value = next_cost table (value_step elements at value)
+unfoldable pub values_through : List ℕ → List Element → Stand → (value : ℕ) → ℕ
+values_through table elements at value = next_cost table (value_step elements at value)
 
 -- The stand at the beginning, in a state.
 unfoldable pub beginning : State → Stand

@@ -10,10 +10,10 @@ use Rattle.code128_best.specs.declared.effect.Spelled.TheVariants.{Nothing, Char
 use Rattle.code128_best.specs.declared.effect.Effect.{Effect}
 
 -- The character of a value below 96: in B it is 32 and the value; in A it is so for values below 64, and the value less 64 from 64 on.
-unfoldable pub character_in : CodeSet → (value : ℕ) → ℕ
-character_in A value = if nat_lt value 64 then 32 + value else value - 64
-character_in B value = 32 + value
-character_in C value = value
+unfoldable pub character_of_set : CodeSet → (value : ℕ) → ℕ
+character_of_set A value = if nat_lt value 64 then 32 + value else value - 64
+character_of_set B value = 32 + value
+character_of_set C value = value
 
 -- The other one of A and B.
 unfoldable pub other_set : CodeSet → CodeSet
@@ -31,7 +31,7 @@ reads_high s = if s.latch then not s.fnc4 else s.fnc4
 
 -- The byte that a value below 96 spells.
 unfoldable pub character_of : State → (value : ℕ) → ℕ
-character_of s value = if reads_high s then character_in (reading_set s) value + 128 else character_in (reading_set s) value
+character_of s value = if reads_high s then character_of_set (reading_set s) value + 128 else character_of_set (reading_set s) value
 
 -- After a character the pending Shift and the pending FNC4 are off.
 unfoldable pub spent : State → State

@@ -1,6 +1,6 @@
 //! The table of costs: for each place and state the fewest values that spell the rest.
 ghost use Rattle.std.specs.Prelude.{◌≡◌, ◌≤◌, length, []};
-ghost use Rattle.code128_best.specs.Steps.{cost_through, kept_cost};
+ghost use Rattle.code128_best.specs.Steps.{values_through, kept_values};
 ghost use Rattle.code128_best.specs.Costs.{IsTable, IsBest, own_cost};
 
 use crate::own::own_step;
@@ -13,11 +13,11 @@ pub(crate) const UNSPELLED: u32 = 1000;
 
 /// The cost kept for a stand.
 #[inline(always)]
-#[tactic(auto, unfolding(crate::specs::Steps::kept_cost))]
+#[tactic(auto, unfolding(crate::specs::Steps::kept_values))]
 pub(crate) fn cost(costs: &[u32], elements: &[Element], at: Stand) -> u32
     requires table { IsTable costs.now elements.now }
     requires within { at.place ≤ length elements.now }
-    ensures value { result ≡ kept_cost costs.now at }
+    ensures value { result ≡ kept_values costs.now at }
     ensures small { result ≤ 1000 }
 {
     costs[STATES * at.place + number(at.state)]
@@ -25,11 +25,11 @@ pub(crate) fn cost(costs: &[u32], elements: &[Element], at: Stand) -> u32
 
 /// The cost through a value.
 #[inline(always)]
-#[tactic(auto, unfolding(crate::specs::Steps::cost_through, crate::specs::Steps::next_cost))]
-pub(crate) fn cost_through(costs: &[u32], elements: &[Element], at: Stand, value: u8) -> u32
+#[tactic(auto, unfolding(crate::specs::Steps::values_through, crate::specs::Steps::next_cost))]
+pub(crate) fn values_through(costs: &[u32], elements: &[Element], at: Stand, value: u8) -> u32
     requires table { IsTable costs.now elements.now }
     requires within { at.place ≤ length elements.now }
-    ensures value { result ≡ cost_through costs.now elements.now at value }
+    ensures value { result ≡ values_through costs.now elements.now at value }
 {
     match step(elements, at, value) {
         Some(next) => 1 + cost(costs, elements, next),
@@ -39,7 +39,7 @@ pub(crate) fn cost_through(costs: &[u32], elements: &[Element], at: Stand, value
 
 /// The cost through the only value that can spell characters or digits.
 #[inline(always)]
-#[tactic(auto, unfolding(crate::specs::Steps::cost_through, crate::specs::Steps::next_cost))]
+#[tactic(auto, unfolding(crate::specs::Steps::values_through, crate::specs::Steps::next_cost))]
 pub(crate) fn cost_of_own(costs: &[u32], elements: &[Element], at: Stand) -> u32
     requires table { IsTable costs.now elements.now }
     requires within { at.place ≤ length elements.now }

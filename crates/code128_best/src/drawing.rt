@@ -2,7 +2,7 @@
 ghost use Rattle.std.specs.Prelude.{◌≡◌, ◌<◌, ◌≤◌, ℕ, List, length, All, IfOk, IfErr, OnOk};
 ghost use Rattle.code128_best.specs.declared.code_fault.CodeFault.TheVariants.{TooLong as Excess};
 ghost use Rattle.bar_base.specs.Elements.{IsElement};
-ghost use Rattle.code128_best.specs.Steps.{kept_cost, beginning};
+ghost use Rattle.code128_best.specs.Steps.{kept_values, beginning};
 ghost use Rattle.code128_best.specs.Spelling.{AreDrawnValues, SymbolSpells, IsCode128Element, plain};
 ghost use Rattle.code128_best.specs.Costs.{IsSettled};
 ghost use Rattle.code128_best.specs.Picks.{IsBestStart, AreWholeValues};
@@ -49,7 +49,7 @@ pub(crate) struct Start {
 /// The cost from the beginning in a code set.
 fn cost_from(costs: &[u32], elements: &[Element], set: CodeSet) -> u32
     requires { IsSettled costs.now elements.now }
-    ensures { result ≡ kept_cost costs.now (beginning (plain set)) }
+    ensures { result ≡ kept_values costs.now (beginning (plain set)) }
 {
     cost(costs, elements, beginning_in(set))
 }
@@ -89,7 +89,7 @@ fn values_from(
 ) -> Result<Vec<u8>, NoMemory>
     requires settled { IsSettled costs.now elements.now }
     requires begins { start.value ≤ 105 }
-    requires known { kept_cost costs.now (beginning (plain start.set)) < 1000 }
+    requires known { kept_values costs.now (beginning (plain start.set)) < 1000 }
     ensures { IfOk result (λ values.
         AreWholeValues costs.now elements.now start.value (plain start.set) values.items) }
 {
@@ -141,7 +141,7 @@ pub fn shortest(alloc: Global, body: &Elements) -> Result<Values, CodeFault>
         (others : List ℕ) → AreDrawnValues body.now others → others ≡ values) }
     ensures fewest { IfOk result (λ values.
         (others : List ℕ) → SymbolSpells others body.now → length values ≤ length others) }
-    ensures set_has_byte { OnOk result (length body.now ≤ 256) }
+    ensures fits { OnOk result (length body.now ≤ 256) }
     ensures too_long { IfErr result (λ fault. fault ≡ Excess → 256 < length body.now) }
 {
     if body.len() > MOST_ELEMENTS {

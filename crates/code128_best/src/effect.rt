@@ -1,6 +1,6 @@
 //! What a value does in a state (ISO/IEC 15417, symbol character values and special characters).
 ghost use Rattle.std.specs.Prelude.{◌≡◌, ◌<◌, true};
-ghost use Rattle.code128_best.specs.Values.{character_in, other_set, reading_set, reads_high, character_of, spent, with_fnc4, is_free, silent_if, fnc1_if, character_effect, act_of, act_in_a, act_in_b, act_in_c};
+ghost use Rattle.code128_best.specs.Values.{character_of_set, other_set, reading_set, reads_high, character_of, spent, with_fnc4, is_free, silent_if, fnc1_if, character_effect, act_of, act_in_a, act_in_b, act_in_c};
 
 use crate::state::{CodeSet, State};
 
@@ -28,10 +28,10 @@ pub struct Effect {
 
 /// The character of a value below 96 in code set A or B, below 128.
 #[inline(always)]
-#[tactic(auto, unfolding(crate::specs::Values::character_in))]
+#[tactic(auto, unfolding(crate::specs::Values::character_of_set))]
 fn character(set: CodeSet, value: u8) -> u8
     requires { value < 96 }
-    ensures value { result ≡ character_in set value }
+    ensures value { result ≡ character_of_set set value }
     ensures small { result < 128 }
 {
     match set {

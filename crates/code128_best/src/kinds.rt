@@ -1,9 +1,9 @@
 //! The least cost at a stand by the kind of its state, which leaves out the values that may not stand there.
 ghost use Rattle.std.specs.Prelude.{◌≡◌, ◌≤◌, ◌+◌, length, [], true, false, if◌then◌else◌};
-ghost use Rattle.code128_best.specs.Steps.{cost_through, kept_cost, text_stand, pairs_stand};
+ghost use Rattle.code128_best.specs.Steps.{values_through, kept_values, text_stand, pairs_stand};
 ghost use Rattle.code128_best.specs.Costs.{IsTable, IsBest, own_cost};
 
-use crate::costs::{UNSPELLED, cost, cost_of_end, cost_of_own, cost_through};
+use crate::costs::{UNSPELLED, cost, cost_of_end, cost_of_own, values_through};
 use crate::state::{CodeSet, State};
 use crate::stepping::Stand;
 use bar_base::Element;
@@ -54,7 +54,7 @@ fn onward_text(
 ) -> u32
     requires table { IsTable costs.now elements.now }
     requires within { place ≤ length elements.now }
-    ensures value { result ≡ 1 + kept_cost costs.now (text_stand place is_b latch fnc4 shift) }
+    ensures value { result ≡ 1 + kept_values costs.now (text_stand place is_b latch fnc4 shift) }
     ensures small { result ≤ 1001 }
 {
     1 + cost(costs, elements, text_stand(place, is_b, latch, fnc4, shift))
@@ -65,7 +65,7 @@ fn onward_text(
 fn onward_c(costs: &[u32], elements: &[Element], place: usize, latch: bool) -> u32
     requires table { IsTable costs.now elements.now }
     requires within { place ≤ length elements.now }
-    ensures value { result ≡ (if latch then 1000 else 1 + kept_cost costs.now (pairs_stand place false false false)) }
+    ensures value { result ≡ (if latch then 1000 else 1 + kept_values costs.now (pairs_stand place false false false)) }
 {
     if latch {
         UNSPELLED
@@ -97,9 +97,9 @@ fn own_text(
 fn fnc1_text(costs: &[u32], elements: &[Element], place: usize, is_b: bool, latch: bool) -> u32
     requires table { IsTable costs.now elements.now }
     requires within { place ≤ length elements.now }
-    ensures value { result ≡ cost_through costs.now elements.now (text_stand place is_b latch false false) 102 }
+    ensures value { result ≡ values_through costs.now elements.now (text_stand place is_b latch false false) 102 }
 {
-    cost_through(
+    values_through(
         costs,
         elements,
         text_stand(place, is_b, latch, false, false),
@@ -144,9 +144,9 @@ fn fnc1_pairs(
 ) -> u32
     requires table { IsTable costs.now elements.now }
     requires within { place ≤ length elements.now }
-    ensures value { result ≡ cost_through costs.now elements.now (pairs_stand place latch fnc4 shift) 102 }
+    ensures value { result ≡ values_through costs.now elements.now (pairs_stand place latch fnc4 shift) 102 }
 {
-    cost_through(costs, elements, pairs_stand(place, latch, fnc4, shift), 102)
+    values_through(costs, elements, pairs_stand(place, latch, fnc4, shift), 102)
 }
 
 /// The cost at the end in code set C.

@@ -1,7 +1,7 @@
 //! Steps from stand to stand.
 ghost use Rattle.std.specs.Prelude.{◌≡◌, ◌≤◌, length};
 ghost use Rattle.code128_best.specs.Values.{spelled_count};
-ghost use Rattle.code128_best.specs.Steps.{is_byte, is_fnc1, stands_at, follow, value_step, is_end, stand_of};
+ghost use Rattle.code128_best.specs.Steps.{is_byte, is_fnc1_element, stands_at, follow, value_step, is_end, stand_of};
 
 use crate::effect::{Effect, Spelled, act, is_free};
 use crate::state::{STATES, State, state_from};
@@ -43,9 +43,9 @@ fn is_byte(element: Option<Element>, byte: u8) -> bool
 
 /// Whether an element is there and is FNC1.
 #[inline(always)]
-#[tactic(auto, unfolding(crate::specs::Steps::is_fnc1))]
-fn is_fnc1(element: Option<Element>) -> bool
-    ensures { result ≡ is_fnc1 element }
+#[tactic(auto, unfolding(crate::specs::Steps::is_fnc1_element))]
+fn is_fnc1_element(element: Option<Element>) -> bool
+    ensures { result ≡ is_fnc1_element element }
 {
     match element {
         None => false,
@@ -69,7 +69,7 @@ fn stands(spelled: Spelled, elements: &[Element], place: usize) -> bool
             is_byte(elements.get(place).copied(), first)
                 && is_byte(elements.get(place + 1).copied(), second)
         }
-        Spelled::Fnc1 => is_fnc1(elements.get(place).copied()),
+        Spelled::Fnc1 => is_fnc1_element(elements.get(place).copied()),
     }
 }
 

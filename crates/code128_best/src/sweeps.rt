@@ -3,7 +3,7 @@ ghost use Rattle.std.specs.Prelude.{◌≡◌, ◌<◌, ◌≤◌, length, sum};
 ghost use Rattle.std.specs.Bool.{OnTrue, OnFalse};
 ghost use Rattle.code128_best.specs.Costs.{IsTable, IsBest, IsStableAt, IsSettled};
 
-use crate::costs::{cost_of_end, cost_of_own, cost_through};
+use crate::costs::{cost_of_end, cost_of_own, values_through};
 use crate::stepping::{Stand, stand_from};
 use bar_base::Element;
 
@@ -16,11 +16,11 @@ fn least(costs: &[u32], elements: &[Element], at: Stand) -> u32
 {
     let end = cost_of_end(elements, at);
     let first = cost_of_own(costs, elements, at);
-    let shift = cost_through(costs, elements, at, 98);
-    let to_c = cost_through(costs, elements, at, 99);
-    let to_b = cost_through(costs, elements, at, 100);
-    let to_a = cost_through(costs, elements, at, 101);
-    let fnc1 = cost_through(costs, elements, at, 102);
+    let shift = values_through(costs, elements, at, 98);
+    let to_c = values_through(costs, elements, at, 99);
+    let to_b = values_through(costs, elements, at, 100);
+    let to_a = values_through(costs, elements, at, 101);
+    let fnc1 = values_through(costs, elements, at, 102);
     end.min(first)
         .min(shift)
         .min(to_c)

@@ -12,12 +12,12 @@ use Rattle.four_state.specs.declared.bars.TheConstants.{LONG_BARS}
 use Rattle.four_state.specs.declared.symbol.TheConstants.{RM4SCC_MOST_BYTES}
 
 -- The characters row by row, six in each row.
-unfoldable pub characters : List ℕ
-characters = CHARACTERS
+unfoldable pub four_state_characters : List ℕ
+four_state_characters = CHARACTERS
 
 -- The index of a character in the table, from 0.
 unfoldable pub index_of : (byte : ℕ) → Option ℕ
-index_of byte = position (λ character. character == byte) characters
+index_of byte = position (λ character. character == byte) four_state_characters
 
 -- A byte is drawn as its character, a lower-case letter as the upper-case one.
 unfoldable pub indices_of : (byte : ℕ) → List ℕ
@@ -37,8 +37,8 @@ table_index row column = (row - 1) * 6 + (column - 1)
 unfoldable pub check_number : (numbers : List ℕ) → ℕ
 check_number numbers = if sum numbers % 6 == 0 then 6 else sum numbers % 6
 
-unfoldable pub check_character : (indices : List ℕ) → ℕ
-check_character indices = table_index (check_number (map row indices)) (check_number (map column indices))
+unfoldable pub check_index : (indices : List ℕ) → ℕ
+check_index indices = table_index (check_number (map row indices)) (check_number (map column indices))
 
 -- Which of the four bars of a row or a column, 1 to 6, are long: two, whose weights 4, 2, 1, 0 sum to the number.
 unfoldable pub long_bars : (number : ℕ) → List Bool
@@ -74,7 +74,7 @@ rm4scc_picture ascenders descenders = record {
 }
 
 unfoldable pub rm4scc_symbol : (indices : List ℕ) → Linear
-rm4scc_symbol indices = record { grid = rm4scc_picture (ascenders indices) (descenders indices); checks = check_character indices ∷ [] }
+rm4scc_symbol indices = record { grid = rm4scc_picture (ascenders indices) (descenders indices); checks = check_index indices ∷ [] }
 
 -- A text of at most 50 bytes is drawn.
 unfoldable pub rm4scc_of : (text : List ℕ) → Result Linear LinearFault

@@ -1,6 +1,6 @@
 //! The characters and their places in the table of six rows and six columns.
 ghost use Rattle.std.specs.Prelude.{◌≡◌, ◌<◌, IfSome, length};
-ghost use Rattle.four_state.specs.FourState.{characters, index_of, indices_of};
+ghost use Rattle.four_state.specs.FourState.{four_state_characters, index_of, indices_of};
 
 use bar_base::{Characters, Short};
 
@@ -8,9 +8,9 @@ use bar_base::{Characters, Short};
 pub const CHARACTERS: [u8; 36] = *b"0123456789ABCDEFGHIJKLMNOPQRSTUVWXYZ";
 
 /// The table of characters.
-#[tactic(auto, unfolding(crate::specs::FourState::characters))]
+#[tactic(auto, unfolding(crate::specs::FourState::four_state_characters))]
 fn characters() -> &'static [u8]
-    ensures table { result.now ≡ characters }
+    ensures table { result.now ≡ four_state_characters }
     ensures long { length result.now ≡ 36 }
 {
     &CHARACTERS

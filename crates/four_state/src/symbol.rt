@@ -23,7 +23,7 @@ pub fn rm4scc(alloc: Global, text: &[u8]) -> Result<Linear, LinearFault>
 }
 
 /// The symbol of characters with these indices.
-#[tactic(auto, unfolding(crate::specs::FourState::rm4scc_symbol, crate::specs::FourState::check_character))]
+#[tactic(auto, unfolding(crate::specs::FourState::rm4scc_symbol, crate::specs::FourState::check_index))]
 fn symbol(alloc: Global, indices: &[u8]) -> Result<Linear, LinearFault>
     requires bounded { All (λ index. index < 36) indices.now }
     requires few { length indices.now ≤ 50 }

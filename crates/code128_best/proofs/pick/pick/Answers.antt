@@ -10,28 +10,28 @@ returns-then-cost_of_own-least c =
     subst (λ (v : ℕ). IsPick c.args.costs.now c.args.elements.now c.args.at v) (sym c.own_value.ensures.value)
     (pick_own c.args.costs.now c.args.elements.now c.args.at (own_of c.args.elements.now c.args.at) (own_is c.args.elements.now c.args.at) c.requires.known (sym c.cost_of_own.ensures.value ∙ c.if-cost_of_own-least.true ∙ c.cost-least.ensures.value))
 
-pub returns-then-cost_through-least : goal.returns-then-cost_through-least
-returns-then-cost_through-least c =
+pub returns-then-values_through-least : goal.returns-then-values_through-least
+returns-then-values_through-least c =
     pick_late c.args.costs.now c.args.elements.now c.args.at (own_of c.args.elements.now c.args.at) 98 (own_is c.args.elements.now c.args.at) c.requires.known (λ same. c.if-cost_of_own-least.false (c.cost_of_own.ensures.value ∙ same ∙ sym c.cost-least.ensures.value))
-    (λ less. absurd (omega arith)) (λ less. absurd (omega arith)) (λ less. absurd (omega arith)) (λ less. absurd (omega arith)) (omega arith) (sym c.cost_through.ensures.value ∙ c.if-cost_through-least.true ∙ c.cost-least.ensures.value)
+    (λ less. absurd (omega arith)) (λ less. absurd (omega arith)) (λ less. absurd (omega arith)) (λ less. absurd (omega arith)) (omega arith) (sym c.values_through.ensures.value ∙ c.if-values_through-least.true ∙ c.cost-least.ensures.value)
 
-pub returns-then-cost_through-least-2 : goal.returns-then-cost_through-least-2
-returns-then-cost_through-least-2 c =
+pub returns-then-values_through-least-2 : goal.returns-then-values_through-least-2
+returns-then-values_through-least-2 c =
     pick_late c.args.costs.now c.args.elements.now c.args.at (own_of c.args.elements.now c.args.at) 99 (own_is c.args.elements.now c.args.at) c.requires.known (λ same. c.if-cost_of_own-least.false (c.cost_of_own.ensures.value ∙ same ∙ sym c.cost-least.ensures.value))
-    (λ _. (λ same. c.if-cost_through-least.false (c.cost_through.ensures.value ∙ same ∙ sym c.cost-least.ensures.value))) (λ less. absurd (omega arith)) (λ less. absurd (omega arith)) (λ less. absurd (omega arith)) (omega arith) (sym c.cost_through-else-cost_through-least.ensures.value ∙ c.if-cost_through-least-2.true ∙ c.cost-least.ensures.value)
+    (λ _. (λ same. c.if-values_through-least.false (c.values_through.ensures.value ∙ same ∙ sym c.cost-least.ensures.value))) (λ less. absurd (omega arith)) (λ less. absurd (omega arith)) (λ less. absurd (omega arith)) (omega arith) (sym c.values_through-else-values_through-least.ensures.value ∙ c.if-values_through-least-2.true ∙ c.cost-least.ensures.value)
 
-pub returns-then-cost_through-least-3 : goal.returns-then-cost_through-least-3
-returns-then-cost_through-least-3 c =
+pub returns-then-values_through-least-3 : goal.returns-then-values_through-least-3
+returns-then-values_through-least-3 c =
     pick_late c.args.costs.now c.args.elements.now c.args.at (own_of c.args.elements.now c.args.at) 100 (own_is c.args.elements.now c.args.at) c.requires.known (λ same. c.if-cost_of_own-least.false (c.cost_of_own.ensures.value ∙ same ∙ sym c.cost-least.ensures.value))
-    (λ _. (λ same. c.if-cost_through-least.false (c.cost_through.ensures.value ∙ same ∙ sym c.cost-least.ensures.value))) (λ _. (λ same. c.if-cost_through-least-2.false (c.cost_through-else-cost_through-least.ensures.value ∙ same ∙ sym c.cost-least.ensures.value))) (λ less. absurd (omega arith)) (λ less. absurd (omega arith)) (omega arith) (sym c.cost_through-else-cost_through-least-2.ensures.value ∙ c.if-cost_through-least-3.true ∙ c.cost-least.ensures.value)
+    (λ _. (λ same. c.if-values_through-least.false (c.values_through.ensures.value ∙ same ∙ sym c.cost-least.ensures.value))) (λ _. (λ same. c.if-values_through-least-2.false (c.values_through-else-values_through-least.ensures.value ∙ same ∙ sym c.cost-least.ensures.value))) (λ less. absurd (omega arith)) (λ less. absurd (omega arith)) (omega arith) (sym c.values_through-else-values_through-least-2.ensures.value ∙ c.if-values_through-least-3.true ∙ c.cost-least.ensures.value)
 
-pub returns-then-cost_through-least-4 : goal.returns-then-cost_through-least-4
-returns-then-cost_through-least-4 c =
+pub returns-then-values_through-least-4 : goal.returns-then-values_through-least-4
+returns-then-values_through-least-4 c =
     pick_late c.args.costs.now c.args.elements.now c.args.at (own_of c.args.elements.now c.args.at) 101 (own_is c.args.elements.now c.args.at) c.requires.known (λ same. c.if-cost_of_own-least.false (c.cost_of_own.ensures.value ∙ same ∙ sym c.cost-least.ensures.value))
-    (λ _. (λ same. c.if-cost_through-least.false (c.cost_through.ensures.value ∙ same ∙ sym c.cost-least.ensures.value))) (λ _. (λ same. c.if-cost_through-least-2.false (c.cost_through-else-cost_through-least.ensures.value ∙ same ∙ sym c.cost-least.ensures.value))) (λ _. (λ same. c.if-cost_through-least-3.false (c.cost_through-else-cost_through-least-2.ensures.value ∙ same ∙ sym c.cost-least.ensures.value))) (λ less. absurd (omega arith)) (omega arith) (sym c.cost_through-else-cost_through-least-3.ensures.value ∙ c.if-cost_through-least-4.true ∙ c.cost-least.ensures.value)
+    (λ _. (λ same. c.if-values_through-least.false (c.values_through.ensures.value ∙ same ∙ sym c.cost-least.ensures.value))) (λ _. (λ same. c.if-values_through-least-2.false (c.values_through-else-values_through-least.ensures.value ∙ same ∙ sym c.cost-least.ensures.value))) (λ _. (λ same. c.if-values_through-least-3.false (c.values_through-else-values_through-least-2.ensures.value ∙ same ∙ sym c.cost-least.ensures.value))) (λ less. absurd (omega arith)) (omega arith) (sym c.values_through-else-values_through-least-3.ensures.value ∙ c.if-values_through-least-4.true ∙ c.cost-least.ensures.value)
 
-pub returns-else-cost_through-least-4 : goal.returns-else-cost_through-least-4
-returns-else-cost_through-least-4 c =
+pub returns-else-values_through-least-4 : goal.returns-else-values_through-least-4
+returns-else-values_through-least-4 c =
     pick_late c.args.costs.now c.args.elements.now c.args.at (own_of c.args.elements.now c.args.at) 102 (own_is c.args.elements.now c.args.at) c.requires.known (λ same. c.if-cost_of_own-least.false (c.cost_of_own.ensures.value ∙ same ∙ sym c.cost-least.ensures.value))
-    (λ _. (λ same. c.if-cost_through-least.false (c.cost_through.ensures.value ∙ same ∙ sym c.cost-least.ensures.value))) (λ _. (λ same. c.if-cost_through-least-2.false (c.cost_through-else-cost_through-least.ensures.value ∙ same ∙ sym c.cost-least.ensures.value))) (λ _. (λ same. c.if-cost_through-least-3.false (c.cost_through-else-cost_through-least-2.ensures.value ∙ same ∙ sym c.cost-least.ensures.value))) (λ _. (λ same. c.if-cost_through-least-4.false (c.cost_through-else-cost_through-least-3.ensures.value ∙ same ∙ sym c.cost-least.ensures.value))) (omega arith)
-    (last_cheap c.args.costs.now c.args.elements.now c.args.at (own_of c.args.elements.now c.args.at) (own_is c.args.elements.now c.args.at) c.requires.known (pick_there c.args.costs.now c.args.elements.now c.requires.settled c.args.at c.requires.within c.requires.more c.requires.known) (λ same. c.if-cost_of_own-least.false (c.cost_of_own.ensures.value ∙ same ∙ sym c.cost-least.ensures.value)) (λ same. c.if-cost_through-least.false (c.cost_through.ensures.value ∙ same ∙ sym c.cost-least.ensures.value)) (λ same. c.if-cost_through-least-2.false (c.cost_through-else-cost_through-least.ensures.value ∙ same ∙ sym c.cost-least.ensures.value)) (λ same. c.if-cost_through-least-3.false (c.cost_through-else-cost_through-least-2.ensures.value ∙ same ∙ sym c.cost-least.ensures.value)) (λ same. c.if-cost_through-least-4.false (c.cost_through-else-cost_through-least-3.ensures.value ∙ same ∙ sym c.cost-least.ensures.value)))
+    (λ _. (λ same. c.if-values_through-least.false (c.values_through.ensures.value ∙ same ∙ sym c.cost-least.ensures.value))) (λ _. (λ same. c.if-values_through-least-2.false (c.values_through-else-values_through-least.ensures.value ∙ same ∙ sym c.cost-least.ensures.value))) (λ _. (λ same. c.if-values_through-least-3.false (c.values_through-else-values_through-least-2.ensures.value ∙ same ∙ sym c.cost-least.ensures.value))) (λ _. (λ same. c.if-values_through-least-4.false (c.values_through-else-values_through-least-3.ensures.value ∙ same ∙ sym c.cost-least.ensures.value))) (omega arith)
+    (last_cheap c.args.costs.now c.args.elements.now c.args.at (own_of c.args.elements.now c.args.at) (own_is c.args.elements.now c.args.at) c.requires.known (pick_there c.args.costs.now c.args.elements.now c.requires.settled c.args.at c.requires.within c.requires.more c.requires.known) (λ same. c.if-cost_of_own-least.false (c.cost_of_own.ensures.value ∙ same ∙ sym c.cost-least.ensures.value)) (λ same. c.if-values_through-least.false (c.values_through.ensures.value ∙ same ∙ sym c.cost-least.ensures.value)) (λ same. c.if-values_through-least-2.false (c.values_through-else-values_through-least.ensures.value ∙ same ∙ sym c.cost-least.ensures.value)) (λ same. c.if-values_through-least-3.false (c.values_through-else-values_through-least-2.ensures.value ∙ same ∙ sym c.cost-least.ensures.value)) (λ same. c.if-values_through-least-4.false (c.values_through-else-values_through-least-3.ensures.value ∙ same ∙ sym c.cost-least.ensures.value)))

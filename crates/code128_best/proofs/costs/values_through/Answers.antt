@@ -1,6 +1,6 @@
 use Rattle.std.proofs.Common.{◌∙◌, sym}
 use Rattle.code128_best.proofs.StepLaws.{step_within}
-use Rattle.code128_best.proofs.costs.cost_through.Goals as goal
+use Rattle.code128_best.proofs.costs.values_through.Goals as goal
 
 pub cost-requires-clause-within : goal.cost-requires-clause-within
 cost-requires-clause-within c =
