@@ -1,3 +1,3 @@
-pub mod GridLines
 pub mod Numbers
+pub mod OneStep
 pub mod Steps

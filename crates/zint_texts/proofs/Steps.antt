@@ -1,5 +1,5 @@
 -- Where a row of steps ends.
-use Rattle.std.proofs.Common.{◌≡◌, Ok, Err, inl, inr, Result}
+use Rattle.std.proofs.Common.{Ok, inl, inr}
 use Rattle.zint_texts.specs.Steps.{Step, Then, Refuses}
 use Rattle.zint_texts.specs.declared.fault.Fault.{Fault}
 use Rattle.zint_texts.specs.declared.fault.Fault.TheVariants.{NoMemory, Unread, Unwritten, Refused}

@@ -23,6 +23,10 @@ kind_text Date = codes "date"
 abbrev pub place_detail_of : Kind → (place : ℕ) → List ℕ
 place_detail_of kind place = kind_text kind ++ codes " at " ++ decimal place
 
+-- bad data in a segment behind the first: its kind, its place, and the number of the segment
+abbrev pub segment_detail_of : Kind → (place segment : ℕ) → List ℕ
+segment_detail_of kind place segment = kind_text kind ++ codes " at " ++ decimal place ++ codes " in segment " ++ decimal segment
+
 -- a wrong check digit: the digit, its place, and the digit that it should be
 abbrev pub check_detail_of : (given place wanted : ℕ) → List ℕ
 check_detail_of given place wanted =

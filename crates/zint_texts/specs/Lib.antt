@@ -1,5 +1,6 @@
 pub mod Detail
 pub mod FaultLine
+pub mod ReadingDetail
 pub mod Refusals
 pub mod Report
 pub mod Steps

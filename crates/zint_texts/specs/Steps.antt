@@ -26,6 +26,16 @@ abbrev pub answered : {A E : Type 0} → (fault_of : E → Fault) → Result A E
 answered fault_of given (Ok value) = given ≡ Ok value
 answered {A} {E} fault_of given (Err refusal) = (fault : E) × (given ≡ Err fault) × (fault_of fault ≡ Refused refusal)
 
+-- The step of a relation to values and of one to faults: its refusals are those that the faults are here.
+abbrev pub related : {A E : Type 0} → (fault_of : E → Fault) → (is_value : A → Type 0) → (is_fault : E → Type 0) → Step A
+related fault_of is_value is_fault (Ok value) = is_value value
+related {A} {E} fault_of is_value is_fault (Err refused) = (fault : E) × is_fault fault × (fault_of fault ≡ Refused refused)
+
+-- The step of a relation to values that is never refused.
+abbrev pub never_refused : {A : Type 0} → (is_value : A → Type 0) → Step A
+never_refused is_value (Ok value) = is_value value
+never_refused is_value (Err refused) = ⊥
+
 -- A fault is a refusal of the step; want of memory may come anywhere, and a step neither reads nor writes.
 abbrev pub Refuses : {A : Type 0} → Step A → Fault → Type 0
 Refuses step NoMemory = Unit {0}
@@ -34,6 +44,6 @@ Refuses step Unwritten = ⊥
 Refuses step (Refused refusal) = step (Err refusal)
 
 -- What a function returned, seen by view, is an answer of the step, unless memory ran out.
-abbrev pub Gives : {X Y : Type 0} → (X → Y) → Result X Fault → Step Y → Type 0
-Gives view (Ok x) step = step (Ok (view x))
-Gives view (Err fault) step = Refuses step fault
+abbrev pub MayAnswer : {X Y : Type 0} → (X → Y) → Result X Fault → Step Y → Type 0
+MayAnswer view (Ok x) step = step (Ok (view x))
+MayAnswer view (Err fault) step = Refuses step fault

@@ -1,7 +1,7 @@
 //! The details of fault lines, made on the stack.
 ghost use Rattle.std.specs.Prelude.{◌≡◌, ◌+◌, ◌≤◌, ◌++◌, length, decimal};
 ghost use Rattle.arrayvec.specs.ArrayVec.{array_vec_len};
-ghost use Rattle.zint_texts.specs.Detail.{kind_text, unit_text, check_detail_of, limit_detail_of, place_detail_of, size_detail_of};
+ghost use Rattle.zint_texts.specs.Detail.{kind_text, unit_text, check_detail_of, limit_detail_of, place_detail_of, segment_detail_of, size_detail_of};
 ghost use Rattle.zint_texts.specs.Report.{size_text};
 
 use arrayvec::ArrayVec;
@@ -71,7 +71,7 @@ fn unit_word(unit: Unit) -> &'static [u8]
 }
 
 /// Puts a piece at the end of a detail that has the room.
-fn put(detail: &mut Detail, piece: &[u8])
+pub(crate) fn put(detail: &mut Detail, piece: &[u8])
     requires { array_vec_len detail.old + length piece.now ≤ 128 }
     ensures items { detail.new.items ≡ detail.old.items ++ piece.now }
     ensures counted { array_vec_len detail.new ≡ array_vec_len detail.old + length piece.now }
@@ -80,7 +80,7 @@ fn put(detail: &mut Detail, piece: &[u8])
 }
 
 /// Puts the decimal digits of a number, at most 20, at the end of a detail that has the room.
-fn put_digits(detail: &mut Detail, number: u64)
+pub(crate) fn put_digits(detail: &mut Detail, number: u64)
     requires { array_vec_len detail.old + 20 ≤ 128 }
     ensures items { detail.new.items ≡ detail.old.items ++ decimal number }
     ensures counted { array_vec_len detail.new ≤ array_vec_len detail.old + 20 }
@@ -107,6 +107,20 @@ pub(crate) fn place_detail(kind: Kind, place: u64) -> Detail
     put(&mut detail, kind_word(kind));
     put(&mut detail, b" at ");
     put_digits(&mut detail, place);
+    detail
+}
+
+/// The detail of bad data in a segment behind the first: its kind, its place in bytes from 0 and the number of the segment, as in
+/// `character at 0 in segment 1`.
+pub(crate) fn segment_detail(kind: Kind, place: u64, segment: u32) -> Detail
+    ensures { result.items ≡ segment_detail_of kind place segment }
+{
+    let mut detail: Detail = ArrayVec::new();
+    put(&mut detail, kind_word(kind));
+    put(&mut detail, b" at ");
+    put_digits(&mut detail, place);
+    put(&mut detail, b" in segment ");
+    put_digits(&mut detail, u64::from(segment));
     detail
 }
 

@@ -6,8 +6,11 @@ ghost use Rattle.bar_base.specs.Outside.{AppendsPrefix};
 ghost use Rattle.zint_texts.specs.FaultLine.{fault_front, fault_line, fault_text};
 ghost use Rattle.zint_texts.specs.declared.fault.Fault.TheVariants as fault_variants;
 
-use crate::detail::{check_detail, limit_detail, place_detail, size_detail};
+use crate::detail::{check_detail, limit_detail, place_detail, segment_detail, size_detail};
 use crate::fault::Fault;
+use crate::reading_detail::{
+    damage_detail, image_detail, module_detail, number_detail, words_detail,
+};
 use crate::refusal::Refusal;
 use arrayvec::ArrayVec;
 use bar_base::{Failed, Sink, write_all};
@@ -48,6 +51,11 @@ fn write_refusal<S: Sink>(sink: &mut S, refusal: &Refusal) -> Result<(), Failed>
         Refusal::BadData(kind, place) => {
             write_line(sink, status, place_detail(*kind, *place).as_slice())
         }
+        Refusal::BadSegment(kind, place, segment) => write_line(
+            sink,
+            status,
+            segment_detail(*kind, *place, *segment).as_slice(),
+        ),
         Refusal::BadCheck {
             given,
             place,
@@ -59,6 +67,18 @@ fn write_refusal<S: Sink>(sink: &mut S, refusal: &Refusal) -> Result<(), Failed>
         ),
         Refusal::BadOption(text) => write_line(sink, status, text.as_bytes()),
         Refusal::NoFit(misfit) => write_line(sink, status, size_detail(*misfit).as_slice()),
+        Refusal::BadImage(fault) => write_line(sink, status, image_detail(*fault).as_slice()),
+        Refusal::NoFinder(x, y) => write_line(sink, status, module_detail(*x, *y).as_slice()),
+        Refusal::BadMode(words) => write_line(sink, status, words_detail(words).as_slice()),
+        Refusal::TooDamaged { codewords, check } => {
+            write_line(sink, status, damage_detail(*codewords, *check).as_slice())
+        }
+        Refusal::BadWord(place) => {
+            write_line(sink, status, number_detail(b"codeword ", *place).as_slice())
+        }
+        Refusal::BadSpelling(place) => {
+            write_line(sink, status, number_detail(b"bit ", *place).as_slice())
+        }
     }
 }
 

@@ -3,10 +3,10 @@ ghost use Rattle.std.specs.Prelude.{◌≡◌, ◌++◌, OnOk, decimal, map};
 ghost use Rattle.bar_base.specs.GridText.{module_text};
 ghost use Rattle.zint_texts.specs.Report.{numbers_text, size_text, spaced_text};
 
-use crate::grid_lines::digit;
 use aztec_layout::Size;
 use bar_base::{Bits, NoMemory};
 use itoa::Buffer;
+use vector_out::digit;
 
 /// Puts `piece` at the end of `text`.
 pub fn put_text(text: &mut Vec<u8>, piece: &[u8]) -> Result<(), NoMemory>

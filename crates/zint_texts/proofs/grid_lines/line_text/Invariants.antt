@@ -1,8 +1,0 @@
-use Rattle.std.proofs.Common.{◌≡◌, map, take}
-use Rattle.bar_base.specs.GridText.{module_text}
-use Rattle.bar_base.specs.Picture.{row_of}
-use Rattle.zint_texts.proofs.grid_lines.line_text.Given as goal
-
--- the text is that of the modules on the left
-abbrev pub invariant-loop-x : goal.invariant-loop-x
-invariant-loop-x l = l.text.items ≡ map module_text (take l.x (row_of l.grid l.y))
