@@ -1,6 +1,8 @@
 pub mod Building
+pub mod CommaValues
 pub mod Finding
-pub mod Kept
+pub mod Known
 pub mod Matching
 pub mod Numbers
 pub mod Outcomes
+pub mod Segments

@@ -23,7 +23,7 @@ pub record OptionRow : Type 0 where
   pub takes : Takes
   pub suited : Option (List Symbology)
   pub is_for_gs1 : Bool
-  pub is_built : Bool
+  pub company : Option (List OptionName)
 
 -- the rows of the table, one for each option in the order of their variants
 abbrev pub option_rows : List OptionRow
@@ -34,7 +34,7 @@ option_rows = map (λ row. record {
   takes = row.3;
   suited = option_map (λ s. s.now) row.4;
   is_for_gs1 = row.5;
-  is_built = row.6;
+  company = option_map (λ s. s.now) row.6;
 }) OPTIONS.now
 
 unfoldable pub option_row : OptionName → OptionRow
@@ -45,7 +45,7 @@ option_row n = slice_index_or option_rows (tag_of the_type n) (record {
   takes = Flag;
   suited = None;
   is_for_gs1 = false;
-  is_built = false;
+  company = None;
 })
 
 -- the options, in the order of their table

@@ -2,6 +2,8 @@
 use Rattle.std.specs.Prelude.{◌≡◌, ◌≤◌, ◌-◌, ℕ, Bool, true, false, not, if◌then◌else◌, Option, Some, None, option_map, is_some, option_and_then, unwrap_or, slice_index}
 use Rattle.std.specs.Option.{ForSome, option_map_or}
 use Rattle.clap.specs.Words.{Text}
+use Rattle.bar_base.specs.Paint.{IsPaint}
+use Rattle.bar_base.specs.declared.paint.Paint.{Paint}
 use Rattle.zint_words.specs.CommandLine.{Values, taken_by}
 use Rattle.zint_words.specs.Forms.{form_by_ending, form_in}
 use Rattle.zint_words.specs.Numbers.{character_set_in, is_character_set, whole_number_in}
@@ -74,6 +76,14 @@ share_of v = slice_index SHARES (given_number v option.Secure 2 - 1)
 unfoldable pub symbol_version_of : Values → Option ℕ
 symbol_version_of v = option_and_then (whole_number_in 1 (greatest_version (symbology_of v))) (v option.Vers)
 
+-- how a picture is painted: at scale 1 and with no white space where nothing else is named
+unfoldable pub paint_of : Values → Paint
+paint_of v = record {
+  scale = given_number v option.Scale 1;
+  white = given_number v option.Whitesp 0;
+  vwhite = given_number v option.Vwhitesp 0;
+}
+
 unfoldable pub drawing_options_of : Values → DrawingOptions
 drawing_options_of v = record {
   symbology = symbology_of v;
@@ -84,7 +94,8 @@ drawing_options_of v = record {
   eci = eci_of v;
   share = share_of v;
   version = symbol_version_of v;
-  scale = given_number v option.Scale 1;
+  paint = paint_of v;
+  height = given_number v option.Height 50;
 }
 
 -- what the numbers among them may be
@@ -92,7 +103,8 @@ pub record IsInRange (o : DrawingOptions) : Type 0 where
   pub eci : ForSome o.eci (λ n. is_character_set n ≡ true)
   pub share : o.share ≤ 50
   pub version : ForSome o.version (λ v. (1 ≤ v) × (v ≤ 36))
-  pub scale : (1 ≤ o.scale) × (o.scale ≤ 20)
+  pub paint : IsPaint o.paint
+  pub height : (1 ≤ o.height) × (o.height ≤ 200)
 
 -- Code 39 has its check character, which the one version that it has asks for
 abbrev pub has_check_version : Symbology → (version : Option ℕ) → Bool

@@ -1,4 +1,4 @@
--- The forms of the output: the name of each, the ending of the files that are of it, and whether it is written.
+-- The forms of the output: the name of each, and the ending of the files that are of it.
 use Rattle.std.specs.Prelude.{Bool, false, List, [], find, Option, None, map, nat_eq, option_map, slice_index_or, unwrap_or}
 use Rattle.std.specs.List.{ends_with, list_any}
 use Rattle.std.specs.Option.{option_map_or}
@@ -14,7 +14,6 @@ pub record FormRow : Type 0 where
   pub form : Form
   pub name : Text
   pub ending : Option Text
-  pub is_built : Bool
 
 -- the rows of the table, one for each form in the order of their variants
 abbrev pub form_rows : List FormRow
@@ -22,20 +21,15 @@ form_rows = map (λ row. record {
   form = row.0;
   name = row.1.now;
   ending = option_map (λ e. e.now) row.2;
-  is_built = row.3;
 }) FORM_ROWS.now
 
 unfoldable pub form_row : Form → FormRow
 form_row f = slice_index_or form_rows (tag_of the_type f)
-    (record { form = Svg; name = []; ending = None; is_built = false })
+    (record { form = Svg; name = []; ending = None })
 
 -- the name that `--filetype` takes
 unfoldable pub form_name : Form → Text
 form_name f = (form_row f).name
-
--- the form is written
-unfoldable pub is_built_form : Form → Bool
-is_built_form f = (form_row f).is_built
 
 -- the form with the name
 unfoldable pub form_in : Text → Option Form

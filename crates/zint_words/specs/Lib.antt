@@ -1,5 +1,6 @@
 pub mod BrokenRule
 pub mod CommandLine
+pub mod Commas
 pub mod DrawingOptions
 pub mod Forms
 pub mod GivenValues
@@ -7,5 +8,6 @@ pub mod Numbers
 pub mod Options
 pub mod Outcome
 pub mod Rules
+pub mod SetPlace
 pub mod Settings
 pub mod Symbologies

@@ -1,9 +1,11 @@
 -- What the table of the options says of an option besides its names.
-use Rattle.std.specs.Prelude.{Bool, true, List}
+use Rattle.std.specs.Prelude.{Bool, true, ◌||◌, List}
 use Rattle.std.specs.List.{list_any}
 use Rattle.std.specs.Option.{option_map_or}
+use denote.Enum.Bare.{sameb}
 use Rattle.zint_words.specs.CommandLine.{option_row}
 use Rattle.zint_words.specs.Symbologies.{is_same_symbology}
+use Rattle.zint_words.specs.contracts.options.OptionName.{the_type}
 use Rattle.zint_words.specs.declared.options.OptionName.{OptionName}
 use Rattle.zint_words.specs.declared.symbology.Symbology.{Symbology}
 
@@ -18,6 +20,12 @@ suits n s = option_map_or (λ suited. has_symbology suited s) (option_row n).sui
 unfoldable pub is_for_gs1 : OptionName → Bool
 is_for_gs1 n = (option_row n).is_for_gs1
 
--- this program acts on the option
-unfoldable pub is_built_option : OptionName → Bool
-is_built_option n = (option_row n).is_built
+abbrev pub is_same_option : OptionName → OptionName → Bool
+is_same_option a b = sameb the_type a b
+
+abbrev pub has_option : List OptionName → OptionName → Bool
+has_option options n = list_any (λ other. is_same_option other n) options
+
+-- the option may be given with the other one, as with itself
+unfoldable pub admits : OptionName → OptionName → Bool
+admits n other = option_map_or (λ company. is_same_option other n || has_option company other) (option_row n).company true

@@ -1,5 +1,5 @@
--- The symbologies: the number of each, its name, its versions, and whether it is drawn.
-use Rattle.std.specs.Prelude.{ℕ, Bool, false, List, [], ◌==◌, find, Option, map, option_and_then, slice_index_or}
+-- The symbologies: the number of each, its name, and its versions.
+use Rattle.std.specs.Prelude.{ℕ, Bool, List, [], ◌==◌, find, Option, map, option_and_then, slice_index_or}
 use denote.Enum.Bare.{sameb}
 use denote.Enum.Declared.{tag_of}
 use Rattle.clap.specs.Words.{Text}
@@ -14,7 +14,6 @@ pub record SymbologyRow : Type 0 where
   pub number : ℕ
   pub name : Text
   pub greatest_version : ℕ
-  pub is_built : Bool
 
 -- the rows of the table, one for each symbology in the order of their variants
 abbrev pub symbology_rows : List SymbologyRow
@@ -23,12 +22,11 @@ symbology_rows = map (λ row. record {
   number = row.1;
   name = row.2.now;
   greatest_version = row.3;
-  is_built = row.4;
 }) SYMBOLOGY_ROWS.now
 
 unfoldable pub symbology_row : Symbology → SymbologyRow
 symbology_row s = slice_index_or symbology_rows (tag_of the_type s)
-    (record { symbology = Code39; number = 0; name = []; greatest_version = 0; is_built = false })
+    (record { symbology = Code39; number = 0; name = []; greatest_version = 0 })
 
 -- the number that `-b` takes
 unfoldable pub symbology_number : Symbology → ℕ
@@ -40,10 +38,6 @@ symbology_name s = (symbology_row s).name
 -- the greatest value of `--vers`
 unfoldable pub greatest_version : Symbology → ℕ
 greatest_version s = (symbology_row s).greatest_version
-
--- the symbology is drawn
-unfoldable pub is_built_symbology : Symbology → Bool
-is_built_symbology s = (symbology_row s).is_built
 
 abbrev pub is_same_symbology : Symbology → Symbology → Bool
 is_same_symbology a b = sameb the_type a b

@@ -1,6 +1,15 @@
 //! The options of a drawing, as fields.
 ghost use Rattle.std.specs.Prelude.{◌≡◌, ◌≤◌, IfSome, true};
-ghost use Rattle.zint_words.specs.DrawingOptions.{IsInRange, check_character, drawing_options_of, eci_of, share_of, symbol_version_of};
+ghost use Rattle.bar_base.specs.Paint.{IsPaint};
+ghost use Rattle.zint_words.specs.DrawingOptions.{
+  IsInRange,
+  check_character,
+  drawing_options_of,
+  eci_of,
+  paint_of,
+  share_of,
+  symbol_version_of,
+};
 ghost use Rattle.zint_words.specs.GivenValues.{values_of};
 ghost use Rattle.zint_words.specs.Numbers.{is_character_set};
 
@@ -9,6 +18,7 @@ use crate::given::Given;
 use crate::options::OptionName;
 use crate::symbology::Symbology;
 use crate::values::{character_set_in, whole_number_in};
+use bar_base::Paint;
 
 /// The brackets round the application identifiers of GS1 element strings.
 #[derive(Clone, Copy, Debug, PartialEq, Eq)]
@@ -40,8 +50,11 @@ pub struct DrawingOptions {
     /// The version of the symbol (`--vers`): for Aztec Code 1 to 4 are the compact sizes and 5 to 36 the full ones; for
     /// Code 39 it is 1, which adds the check character.
     pub version: Option<u32>,
-    /// Half the width of a module in pixels or units (`--scale`): 1 to 20; 1 where none is named.
-    pub scale: u32,
+    /// How a picture is painted (`--scale`, `--whitesp`, `--vwhitesp`): at scale 1 and with no white space where nothing
+    /// else is named.
+    pub paint: Paint,
+    /// The height of a linear symbol in modules (`--height`): 1 to 200; 50 where none is named.
+    pub height: u32,
 }
 
 impl DrawingOptions {
@@ -75,7 +88,21 @@ pub fn drawing_options(given: &Given<'_>) -> DrawingOptions
         eci: eci_of(given),
         share: share_of(given),
         version: version_of(given),
+        paint: paint_of(given),
+        height: given.number(OptionName::Height, 50),
+    }
+}
+
+/// How a picture is painted, as the values say.
+#[tactic(auto, unfolding(crate::specs::DrawingOptions::paint_of, crate::specs::CommandLine::taken_by, crate::specs::CommandLine::option_row))]
+pub fn paint_of(given: &Given<'_>) -> Paint
+    ensures paint { result ≡ paint_of (values_of given.now) }
+    ensures in_range { IsPaint result }
+{
+    Paint {
         scale: given.number(OptionName::Scale, 1),
+        white: given.number(OptionName::Whitesp, 0),
+        vwhite: given.number(OptionName::Vwhitesp, 0),
     }
 }
 

@@ -1,8 +1,7 @@
 //! The forms of the output, by their names and by the endings of file names.
 ghost use Rattle.std.specs.Prelude.{◌≡◌};
-ghost use Rattle.zint_words.specs.Forms.{form_by_ending, form_ending, form_in, form_name, has_left_out_ending, is_asked_by, is_built_form};
+ghost use Rattle.zint_words.specs.Forms.{form_by_ending, form_ending, form_in, form_name, has_left_out_ending, is_asked_by};
 
-use crate::built::is_built;
 use crate::values::{ends_in, ends_in_any};
 
 /// The form in which a symbol is written.
@@ -20,29 +19,29 @@ pub enum Form {
     Report,
 }
 
-// The table: a row for each form, in the order of the variants. It has the variant, the name that `--filetype` takes, the
-// ending of the names of files that are of this form, and whether this program writes it.
+// The table: a row for each form, in the order of the variants. It has the variant, the name that `--filetype` takes, and
+// the ending of the names of files that are of this form.
 macro_rules! forms {
     ($column:ident) => {
         &[
-            $column!(Svg, "svg", Some(".svg"), unbuilt),
-            $column!(Eps, "eps", Some(".eps"), unbuilt),
-            $column!(Bmp, "bmp", Some(".bmp"), unbuilt),
-            $column!(Grid, "grid", None, built),
-            $column!(Report, "report", None, built),
+            $column!(Svg, "svg", Some(".svg")),
+            $column!(Eps, "eps", Some(".eps")),
+            $column!(Bmp, "bmp", Some(".bmp")),
+            $column!(Grid, "grid", None),
+            $column!(Report, "report", None),
         ]
     };
 }
 
 macro_rules! variant {
-    ($form:ident, $name:literal, $ending:expr, $built:ident) => {
+    ($form:ident, $name:literal, $ending:expr) => {
         Form::$form
     };
 }
 
 macro_rules! row {
-    ($form:ident, $name:literal, $ending:expr, $built:ident) => {
-        (Form::$form, $name, $ending, is_built!($built))
+    ($form:ident, $name:literal, $ending:expr) => {
+        (Form::$form, $name, $ending)
     };
 }
 
@@ -50,7 +49,7 @@ macro_rules! row {
 pub const FORMS: &[Form] = forms!(variant);
 
 /// The rows of the forms, in the order of their variants.
-pub const FORM_ROWS: &[(Form, &str, Option<&str>, bool)] = forms!(row);
+pub const FORM_ROWS: &[(Form, &str, Option<&str>)] = forms!(row);
 
 /// The endings of the names of files of forms that are left out.
 pub const LEFT_OUT: [&str; 6] = [".png", ".gif", ".pcx", ".tif", ".emf", ".txt"];
@@ -62,14 +61,6 @@ impl Form {
         ensures { result.now ≡ form_name self }
     {
         FORM_ROWS[self as usize].1
-    }
-
-    /// Whether this program writes the form.
-    #[tactic(auto, unfolding(crate::specs::Forms::is_built_form, crate::specs::Forms::form_row))]
-    pub fn is_built(self) -> bool
-        ensures { result ≡ is_built_form self }
-    {
-        FORM_ROWS[self as usize].3
     }
 
     // Whether the file's name ends as files of this form do.

@@ -3,7 +3,7 @@
 #![tactic(auto)]
 
 mod broken_rule;
-mod built;
+mod comma_values;
 mod command;
 mod drawing_options;
 mod form;
@@ -12,6 +12,8 @@ mod options;
 mod reading;
 mod refusal;
 mod rules;
+mod segment;
+mod set_place;
 mod settings;
 mod symbology;
 #[cfg(test)]
@@ -22,5 +24,7 @@ pub use drawing_options::{DrawingOptions, Gs1Brackets};
 pub use form::Form;
 pub use reading::settings_of;
 pub use refusal::Refusal;
-pub use settings::{DrawingSettings, Origin, Settings};
+pub use segment::Segment;
+pub use set_place::SetPlace;
+pub use settings::{DemonstrationSettings, DrawingSettings, Origin, ReadingSettings, Settings};
 pub use symbology::Symbology;

@@ -1,9 +1,8 @@
-//! The table of the options: a row for each, with its names, what it takes, and the symbologies that it is for.
+//! The table of the options: a row for each, with its names, what it takes, and what it may be given with.
 ghost use Rattle.std.specs.Prelude.{◌≡◌};
 ghost use Rattle.zint_words.specs.CommandLine.{action_for, long_name, short_name, taken_by};
-ghost use Rattle.zint_words.specs.Options.{has_symbology, is_built_option, is_for_gs1, suits};
+ghost use Rattle.zint_words.specs.Options.{admits, has_option, has_symbology, is_for_gs1, suits};
 
-use crate::built::is_built;
 use crate::symbology::Symbology;
 use clap::ArgAction;
 
@@ -24,6 +23,21 @@ pub enum OptionName {
     Secure,
     Vers,
     Scale,
+    Whitesp,
+    Vwhitesp,
+    Height,
+    Structapp,
+    Read,
+    Demo,
+    Seg1,
+    Seg2,
+    Seg3,
+    Seg4,
+    Seg5,
+    Seg6,
+    Seg7,
+    Seg8,
+    Seg9,
 }
 
 /// What an option takes.
@@ -45,28 +59,49 @@ pub enum Takes {
     Version,
     /// The ECI number of a character set.
     CharacterSet,
+    /// A place in a structured append set: `I,C` or `I,C,ID`.
+    SetPlace,
+    /// A segment: `ECI,DATA`.
+    Segment,
 }
 
 // The table: a row for each option, in the order of the variants. It has the variant, the name after `--`, the letter
-// after `-`, what the option takes, the symbologies that it is for, whether it is for GS1 data too, and whether this program
-// acts on it.
+// after `-`, what the option takes, the symbologies that it is for, whether it is for GS1 data too, and the other options
+// that it may be given with.
 macro_rules! option_table {
     ($column:ident) => {
         &[
-            $column!(Barcode, "barcode", Some('b'), Takes::SymbologyNumber, every, any_data, built),
-            $column!(Data, "data", Some('d'), Takes::Text, every, any_data, built),
-            $column!(Input, "input", Some('i'), Takes::Text, every, any_data, built),
-            $column!(Output, "output", Some('o'), Takes::FileName, every, any_data, built),
-            $column!(Direct, "direct", None, Takes::Flag, every, any_data, built),
-            $column!(Filetype, "filetype", None, Takes::FormName, every, any_data, built),
-            $column!(Esc, "esc", None, Takes::Flag, every, any_data, built),
-            $column!(Binary, "binary", None, Takes::Flag, every, no_gs1, built),
-            $column!(Gs1, "gs1", None, Takes::Flag, [Gs1Code128 Aztec], any_data, built),
-            $column!(Gs1parens, "gs1parens", None, Takes::Flag, [Gs1Code128 Aztec], any_data, built),
-            $column!(Eci, "eci", None, Takes::CharacterSet, [Aztec], no_gs1, built),
-            $column!(Secure, "secure", None, Takes::Number(1, 4), [Aztec], any_data, built),
-            $column!(Vers, "vers", None, Takes::Version, [Code39 Aztec], any_data, built),
-            $column!(Scale, "scale", None, Takes::Number(1, 20), every, any_data, unbuilt),
+            $column!(Barcode, "barcode", Some('b'), Takes::SymbologyNumber, every, any_data, any_option),
+            $column!(Data, "data", Some('d'), Takes::Text, every, any_data, any_option),
+            $column!(Input, "input", Some('i'), Takes::Text, every, any_data, any_option),
+            $column!(Output, "output", Some('o'), Takes::FileName, every, any_data, any_option),
+            $column!(Direct, "direct", None, Takes::Flag, every, any_data, any_option),
+            $column!(Filetype, "filetype", None, Takes::FormName, every, any_data, any_option),
+            $column!(Esc, "esc", None, Takes::Flag, every, any_data, any_option),
+            $column!(Binary, "binary", None, Takes::Flag, every, no_gs1, any_option),
+            $column!(Gs1, "gs1", None, Takes::Flag, [Gs1Code128 Aztec], any_data, any_option),
+            $column!(Gs1parens, "gs1parens", None, Takes::Flag, [Gs1Code128 Aztec], any_data, any_option),
+            $column!(Eci, "eci", None, Takes::CharacterSet, [Aztec], no_gs1, any_option),
+            $column!(Secure, "secure", None, Takes::Number(1, 4), [Aztec], any_data, any_option),
+            $column!(Vers, "vers", None, Takes::Version, [Code39 Aztec], any_data, any_option),
+            $column!(Scale, "scale", None, Takes::Number(1, 20), every, any_data, any_option),
+            $column!(Whitesp, "whitesp", None, Takes::Number(0, 100), every, any_data, any_option),
+            $column!(Vwhitesp, "vwhitesp", None, Takes::Number(0, 100), every, any_data, any_option),
+            $column!(Height, "height", None, Takes::Number(1, 200),
+                [Code39 ExtendedCode39 Gs1Code128 Code128 Code93 Itf14], any_data, any_option),
+            $column!(Structapp, "structapp", None, Takes::SetPlace, [Aztec], any_data, any_option),
+            $column!(Read, "read", None, Takes::Flag, every, any_data,
+                [Input Output Direct Scale Whitesp Vwhitesp]),
+            $column!(Demo, "demo", None, Takes::Number(0, 2_147_483_647), every, any_data, [Output Direct]),
+            $column!(Seg1, "seg1", None, Takes::Segment, [Aztec], no_gs1, any_option),
+            $column!(Seg2, "seg2", None, Takes::Segment, [Aztec], no_gs1, any_option),
+            $column!(Seg3, "seg3", None, Takes::Segment, [Aztec], no_gs1, any_option),
+            $column!(Seg4, "seg4", None, Takes::Segment, [Aztec], no_gs1, any_option),
+            $column!(Seg5, "seg5", None, Takes::Segment, [Aztec], no_gs1, any_option),
+            $column!(Seg6, "seg6", None, Takes::Segment, [Aztec], no_gs1, any_option),
+            $column!(Seg7, "seg7", None, Takes::Segment, [Aztec], no_gs1, any_option),
+            $column!(Seg8, "seg8", None, Takes::Segment, [Aztec], no_gs1, any_option),
+            $column!(Seg9, "seg9", None, Takes::Segment, [Aztec], no_gs1, any_option),
         ]
     };
 }
@@ -80,7 +115,7 @@ macro_rules! name {
 }
 
 macro_rules! row {
-    ($option:ident, $long:literal, $short:expr, $takes:expr, $suited:tt, $data:ident, $built:ident) => {
+    ($option:ident, $long:literal, $short:expr, $takes:expr, $suited:tt, $data:ident, $company:tt) => {
         (
             OptionName::$option,
             $long,
@@ -88,7 +123,7 @@ macro_rules! row {
             $takes,
             suited!($suited),
             is_for_gs1!($data),
-            is_built!($built),
+            company!($company),
         )
     };
 }
@@ -103,6 +138,11 @@ macro_rules! is_for_gs1 {
     (no_gs1) => { false };
 }
 
+macro_rules! company {
+    (any_option) => { None };
+    ([$($option:ident)+]) => { Some(&[$(OptionName::$option),+]) };
+}
+
 /// The options, in the order in which their rules are tested.
 pub const OPTION_NAMES: &[OptionName] = option_table!(name);
 
@@ -114,8 +154,21 @@ pub const OPTIONS: &[(
     Takes,
     Option<&[Symbology]>,
     bool,
-    bool,
+    Option<&[OptionName]>,
 )] = option_table!(row);
+
+/// The options that take a segment, in the order of the segments.
+pub const SEGMENT_OPTIONS: &[OptionName] = &[
+    OptionName::Seg1,
+    OptionName::Seg2,
+    OptionName::Seg3,
+    OptionName::Seg4,
+    OptionName::Seg5,
+    OptionName::Seg6,
+    OptionName::Seg7,
+    OptionName::Seg8,
+    OptionName::Seg9,
+];
 
 impl Takes {
     /// How `clap` treats an option that takes this: as a flag, or as set once to one value.
@@ -173,12 +226,15 @@ impl OptionName {
         OPTIONS[self as usize].5
     }
 
-    /// Whether this program acts on the option.
-    #[tactic(auto, unfolding(crate::specs::Options::is_built_option, crate::specs::CommandLine::option_row))]
-    pub fn is_built(self) -> bool
-        ensures { result ≡ is_built_option self }
+    /// Whether the option may be given with the other one, as with itself.
+    #[tactic(auto, unfolding(crate::specs::Options::admits, crate::specs::CommandLine::option_row))]
+    pub fn admits(self, other: OptionName) -> bool
+        ensures { result ≡ admits self other }
     {
-        OPTIONS[self as usize].6
+        match OPTIONS[self as usize].6 {
+            Some(company) => other == self || has_option(company, other),
+            None => true,
+        }
     }
 }
 
@@ -186,4 +242,10 @@ fn has_symbology(symbologies: &[Symbology], symbology: Symbology) -> bool
     ensures { result ≡ has_symbology symbologies.now symbology }
 {
     symbologies.iter().any(|other| *other == symbology)
+}
+
+fn has_option(options: &[OptionName], option: OptionName) -> bool
+    ensures { result ≡ has_option options.now option }
+{
+    options.iter().any(|other| *other == option)
 }

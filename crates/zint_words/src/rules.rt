@@ -1,11 +1,12 @@
 //! The rules on the options, in the order in which they are tested.
 ghost use Rattle.std.specs.Prelude.{◌≡◌, find};
 ghost use Rattle.zint_words.specs.GivenValues.{values_of};
-ghost use Rattle.zint_words.specs.Rules.{breaks, excluded_by, first_broken, is_built, is_good_text, is_good_value};
+ghost use Rattle.zint_words.specs.Rules.{breaks, excluded_by, first_broken, is_good_text, is_good_value, not_admitted_by};
 
+use crate::comma_values::{segment_in, set_place_in};
 use crate::form::{form_in, has_left_out_ending};
 use crate::given::Given;
-use crate::options::{OptionName, Takes, option_table};
+use crate::options::{OPTION_NAMES, OptionName, Takes, option_table};
 use crate::symbology::symbology_in;
 use crate::values::{character_set_in, whole_number_in};
 
@@ -16,18 +17,35 @@ pub enum Rule {
     Value(OptionName),
     /// The two options are not both given.
     Apart(OptionName, OptionName),
+    /// The option is given only with options that it admits.
+    Alone(OptionName),
     /// The option is given only with a symbology and with data that it is for.
     Excluded(OptionName),
-    /// There is a message.
+    /// The first option is given only where the second one is.
+    Behind(OptionName, OptionName),
+    /// There is a message, or none is needed.
     Message,
-    /// This program does what the option asks for.
-    Built(OptionName),
 }
 
-/// The pairs of options that are not given together, in the order in which they are tested.
+/// The options that are not given together, in the order in which they are tested.
 pub const PAIRS: &[Rule] = &[
     Rule::Apart(OptionName::Data, OptionName::Input),
     Rule::Apart(OptionName::Direct, OptionName::Output),
+    Rule::Alone(OptionName::Demo),
+    Rule::Alone(OptionName::Read),
+];
+
+/// What must not be missing, in the order in which it is tested.
+pub const NEEDS: &[Rule] = &[
+    Rule::Behind(OptionName::Seg2, OptionName::Seg1),
+    Rule::Behind(OptionName::Seg3, OptionName::Seg2),
+    Rule::Behind(OptionName::Seg4, OptionName::Seg3),
+    Rule::Behind(OptionName::Seg5, OptionName::Seg4),
+    Rule::Behind(OptionName::Seg6, OptionName::Seg5),
+    Rule::Behind(OptionName::Seg7, OptionName::Seg6),
+    Rule::Behind(OptionName::Seg8, OptionName::Seg7),
+    Rule::Behind(OptionName::Seg9, OptionName::Seg8),
+    Rule::Message,
 ];
 
 macro_rules! value {
@@ -42,18 +60,10 @@ macro_rules! excluded {
     };
 }
 
-macro_rules! built {
-    ($option:ident, $($rest:tt)*) => {
-        Rule::Built(OptionName::$option)
-    };
-}
-
 // The rules of each option, in the order of their table.
 const VALUES: &[Rule] = option_table!(value);
 
 const EXCLUDED: &[Rule] = option_table!(excluded);
-
-const BUILT: &[Rule] = option_table!(built);
 
 /// The first rule that the values break.
 #[tactic(auto, unfolding(crate::specs::Rules::first_broken))]
@@ -63,8 +73,7 @@ pub fn first_broken(given: &Given<'_>) -> Option<Rule>
     first_of(given, VALUES)
         .or(first_of(given, PAIRS))
         .or(first_of(given, EXCLUDED))
-        .or(first_of(given, &[Rule::Message]))
-        .or(first_of(given, BUILT))
+        .or(first_of(given, NEEDS))
 }
 
 fn first_of(given: &Given<'_>, rules: &[Rule]) -> Option<Rule>
@@ -80,10 +89,26 @@ fn breaks(given: &Given<'_>, rule: Rule) -> bool
     match rule {
         Rule::Value(option) => !is_good_value(given, option),
         Rule::Apart(first, second) => given.has(first) && given.has(second),
+        Rule::Alone(option) => given.has(option) && not_admitted_by(given, option).is_some(),
         Rule::Excluded(option) => excluded_by(given, option).is_some(),
-        Rule::Message => !given.has(OptionName::Data) && !given.has(OptionName::Input),
-        Rule::Built(option) => !is_built(given, option),
+        Rule::Behind(option, before) => given.has(option) && !given.has(before),
+        Rule::Message => {
+            !given.has(OptionName::Data)
+                && !given.has(OptionName::Input)
+                && !given.has(OptionName::Demo)
+        }
     }
+}
+
+/// The first option, in the order of the table, that was given and that this one does not admit.
+#[tactic(auto, unfolding(crate::specs::Rules::not_admitted_by))]
+pub fn not_admitted_by(given: &Given<'_>, option: OptionName) -> Option<OptionName>
+    ensures { result ≡ not_admitted_by (values_of given.now) option }
+{
+    OPTION_NAMES
+        .iter()
+        .copied()
+        .find(|other| given.has(*other) && !option.admits(*other))
 }
 
 /// The option with which this one cannot be given: `-b` where it is not for the symbology, and what makes the data GS1 data
@@ -129,17 +154,7 @@ fn is_good_text(given: &Given<'_>, takes: Takes, text: &str) -> bool
             whole_number_in(1, given.symbology().greatest_version(), text).is_some()
         }
         Takes::CharacterSet => character_set_in(text).is_some(),
-    }
-}
-
-// The symbology and the form are to be built whether they are named or not, every other option where it is given.
-#[tactic(auto, unfolding(crate::specs::Rules::is_built))]
-fn is_built(given: &Given<'_>, option: OptionName) -> bool
-    ensures { result ≡ is_built (values_of given.now) option }
-{
-    match option {
-        OptionName::Barcode => given.symbology().is_built(),
-        OptionName::Filetype => given.form().is_built(),
-        _ => !given.has(option) || option.is_built(),
+        Takes::SetPlace => set_place_in(text).is_some(),
+        Takes::Segment => segment_in(text).is_some(),
     }
 }

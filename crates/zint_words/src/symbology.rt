@@ -2,14 +2,12 @@
 ghost use Rattle.std.specs.Prelude.{◌≡◌, ◌≤◌};
 ghost use Rattle.zint_words.specs.Symbologies.{
   greatest_version,
-  is_built_symbology,
   symbology_in,
   symbology_name,
   symbology_number,
   symbology_numbered,
 };
 
-use crate::built::is_built;
 use crate::values::whole_number;
 
 /// A kind of symbol.
@@ -36,38 +34,37 @@ pub enum Symbology {
 }
 
 // The table: a row for each symbology, in the order of the variants. It has the variant, the number that `-b` takes, the
-// name, the greatest value of `--vers`, and whether this program draws it. Code 39 has one version, Aztec Code 36; where a
-// symbology has no versions, the value is tested as for Aztec Code.
+// name, and the greatest value of `--vers`. Code 39 has one version, Aztec Code 36; where a symbology has no versions, the
+// value is tested as for Aztec Code.
 macro_rules! symbologies {
     ($column:ident) => {
         &[
-            $column!(Code39, 8, "Code 39", 1, built),
-            $column!(ExtendedCode39, 9, "Extended Code 39", 36, built),
-            $column!(Gs1Code128, 16, "GS1-128", 36, built),
-            $column!(Code128, 20, "Code 128", 36, built),
-            $column!(Code93, 25, "Code 93", 36, built),
-            $column!(Rm4scc, 70, "RM4SCC", 36, built),
-            $column!(Itf14, 89, "ITF-14", 36, built),
-            $column!(Aztec, 92, "Aztec Code", 36, built),
-            $column!(AztecRune, 128, "Aztec rune", 36, built),
+            $column!(Code39, 8, "Code 39", 1),
+            $column!(ExtendedCode39, 9, "Extended Code 39", 36),
+            $column!(Gs1Code128, 16, "GS1-128", 36),
+            $column!(Code128, 20, "Code 128", 36),
+            $column!(Code93, 25, "Code 93", 36),
+            $column!(Rm4scc, 70, "RM4SCC", 36),
+            $column!(Itf14, 89, "ITF-14", 36),
+            $column!(Aztec, 92, "Aztec Code", 36),
+            $column!(AztecRune, 128, "Aztec rune", 36),
         ]
     };
 }
 
 macro_rules! variant {
-    ($symbology:ident, $number:literal, $name:literal, $versions:literal, $built:ident) => {
+    ($symbology:ident, $number:literal, $name:literal, $versions:literal) => {
         Symbology::$symbology
     };
 }
 
 macro_rules! row {
-    ($symbology:ident, $number:literal, $name:literal, $versions:literal, $built:ident) => {
+    ($symbology:ident, $number:literal, $name:literal, $versions:literal) => {
         (
             Symbology::$symbology,
             $number,
             $name,
             $versions,
-            is_built!($built),
         )
     };
 }
@@ -76,7 +73,7 @@ macro_rules! row {
 pub const SYMBOLOGIES: &[Symbology] = symbologies!(variant);
 
 /// The rows of the symbologies, in the order of their variants.
-pub const SYMBOLOGY_ROWS: &[(Symbology, u32, &str, u32, bool)] = symbologies!(row);
+pub const SYMBOLOGY_ROWS: &[(Symbology, u32, &str, u32)] = symbologies!(row);
 
 impl Symbology {
     /// The number that `-b` takes.
@@ -102,14 +99,6 @@ impl Symbology {
         ensures within { result ≤ 36 }
     {
         SYMBOLOGY_ROWS[self as usize].3
-    }
-
-    /// Whether this program draws the symbology.
-    #[tactic(auto, unfolding(crate::specs::Symbologies::is_built_symbology, crate::specs::Symbologies::symbology_row))]
-    pub fn is_built(self) -> bool
-        ensures { result ≡ is_built_symbology self }
-    {
-        SYMBOLOGY_ROWS[self as usize].4
     }
 }
 
