@@ -1,5 +1,5 @@
 -- Messages, their elements and their characters.
-use Rattle.std.proofs.Common.{◌≡◌, ℕ, suc, ◌+◌, ◌<◌, ◌≤◌, ◌==◌, ◌||◌, List, [], ◌∷◌, ◌++◌, Bool, true, false, All, map, Option, Some, None, Result, Err, IfSome, length, take, get_or, find, nat_le, if◌then◌else◌, ap, sym, subst, refl, arith, ◌∙◌, unwrap_or}
+use Rattle.std.proofs.Common.{◌≡◌, ℕ, suc, ◌+◌, ◌<◌, ◌≤◌, ◌==◌, ◌||◌, List, [], ◌∷◌, ◌++◌, Bool, true, false, All, map, Option, Some, None, Result, Err, IfSome, is_some, length, take, get_or, find, nat_le, if◌then◌else◌, ap, sym, subst, refl, arith, ◌∙◌, unwrap_or}
 use Rattle.std.specs.List.{list_all, list_any}
 use Rattle.std.specs.Option.{ForSome}
 use Rattle.std.proofs.lemmas.Bool.{and_parts, eqb-true, leb-true}
@@ -7,14 +7,14 @@ use Rattle.std.proofs.lemmas.List.{length-append}
 use Rattle.std.proofs.lemmas.List.Elements.{All-append, All-cons, All-nil}
 use Rattle.std.proofs.lemmas.Option.{slice_get-get_or}
 use Rattle.std.proofs.lemmas.Str.{utf8_valid_len-IsUtf8, utf8_valid_len_le}
-use Rattle.std.proofs.Math.Utf8.{encodes}
 use Rattle.bar_base.specs.declared.element.Element.{Element}
 use Rattle.bar_base.specs.declared.element.Element.TheVariants as element
+use Rattle.bar_base.specs.declared.message.Message.{Message}
 use Rattle.bar_base.proofs.ListLemmas.{take_next}
 use Rattle.aztec_modes.specs.Entry.{bytes_as_elements}
-use Rattle.aztec_modes.specs.Message.{IsMessage, eci_elements, gs1_elements, header_elements, message_elements}
-use Rattle.eci_sets.specs.CharacterSets.{has_character, set_numbered}
-use Rattle.eci_sets.specs.Encodings.{Encoded, IsEncodedIn, chosen_eci, first_lacking, has_characters, set_refusal}
+use Rattle.aztec_modes.specs.Message.{eci_elements, gs1_elements, header_elements, message_elements}
+use Rattle.eci_sets.specs.CharacterSets.{set_numbered}
+use Rattle.eci_sets.specs.Encodings.{Encoded, IsEncodedIn, chosen_eci, first_lacking, has_characters, joined_bytes, set_refusal, text_encoding, unless_lacking}
 use Rattle.eci_sets.specs.declared.character_set.CharacterSet.{CharacterSet}
 use Rattle.eci_sets.specs.declared.fault.SetFault.{SetFault}
 use Rattle.eci_sets.specs.declared.fault.SetFault.TheVariants as set_variants
@@ -28,7 +28,7 @@ use Rattle.zint_texts.specs.Steps.{Refuses, answered}
 use Rattle.zint_texts.specs.declared.fault.Fault.{Fault}
 use Rattle.zint_words.specs.Numbers.{is_character_set}
 use Rattle.zint_words.specs.declared.values.TheConstants.{CHARACTER_SETS}
-use Rattle.zint_draw.specs.Message.{CanBeDrawn, gs1_fault, message_with, set_fault, unless_three}
+use Rattle.zint_draw.specs.Message.{CanBeDrawn, IsKnownEci, gs1_fault, message_with}
 
 -- one byte more is one element more
 elements_push : (bytes : List ℕ) (byte : ℕ) → bytes_as_elements (bytes ++ byte ∷ []) ≡ bytes_as_elements bytes ++ element.Byte byte ∷ []
@@ -47,21 +47,42 @@ unfolding bytes_as_elements
 elements_length [] = refl
 elements_length (byte ∷ bytes) = ap suc (elements_length bytes)
 
+-- the sets that are known have whatever every one of them has
+any_has : (p : ℕ → Bool) (sets : List ℕ) (n : ℕ) → list_all p sets ≡ true → list_any (λ set. set == n) sets ≡ true → p n ≡ true
+any_has p [] n all is = cc
+any_has p (set ∷ sets) n all is =
+    let parts = and_parts (p set) (list_all p sets) all in
+    elim (set == n) as (λ b. (set == n) ≡ b → (b || list_any (λ s. s == n) sets) ≡ true → p n ≡ true) [
+      | true ↦ λ same found. ap p (sym (eqb-true set n same)) ∙ parts.0
+      | false ↦ λ differs found. any_has p sets n parts.1 found
+    ] refl is
+
+known_has : (p : ℕ → Bool) (n : ℕ) → list_all p CHARACTER_SETS ≡ true → is_character_set n ≡ true → p n ≡ true
+unfolding is_character_set
+known_has p n all known = any_has p CHARACTER_SETS n all known
+
+-- their numbers have few digits
+pub few_known : (n : ℕ) → is_character_set n ≡ true → n ≤ 999999
+few_known n known = leb-true n 999999 (known_has (λ set. nat_le set 999999) n refl known)
+
+few_named : (eci : Option ℕ) → IsKnownEci eci → IfSome eci (λ number. number ≤ 999999)
+few_named None known = tt
+few_named (Some number) known = few_known number known
+
 -- a message with bytes has an element
-pub bytes_drawable : (eci : Option ℕ) (bytes : List ℕ) → IfSome eci (λ number. number ≤ 999999) → 0 < length bytes
-    → CanBeDrawn (message_with false eci (bytes_as_elements bytes))
+pub bytes_drawable : (eci : Option ℕ) (bytes : List ℕ) (message : Message) → message ≡ message_with false eci (bytes_as_elements bytes) → IsKnownEci eci
+    → 0 < length bytes → CanBeDrawn message
 unfolding message_elements header_elements gs1_elements
-bytes_drawable eci bytes number some = (
-  record { place = tt; eci = number },
-  omega (arith, length-append (eci_elements eci) (bytes_as_elements bytes), elements_length bytes, some),
-)
+bytes_drawable eci bytes message is known some =
+    subst CanBeDrawn (sym is) (
+      record { place = tt; eci = few_named eci known },
+      omega (arith, length-append (eci_elements eci) (bytes_as_elements bytes), elements_length bytes, some),
+    )
 
 -- and so has one of element strings, its FNC1
 pub gs1_drawable : (body : List Element) → CanBeDrawn (message_with true None body)
 unfolding message_elements header_elements gs1_elements
 gs1_drawable body = (record { place = tt; eci = tt }, omega arith)
-
-pub ruleset drawable = (bytes_drawable, gs1_drawable)
 
 pub ruleset whole_characters = (utf8_valid_len-IsUtf8, utf8_valid_len_le)
 
@@ -77,13 +98,44 @@ gs1_answered given (gs1_variants.BadDate place) f is gives = subst (Refuses (ans
 gs1_answered given (gs1_variants.BadCheck place digit wanted) f is gives =
     subst (Refuses (answered gs1_fault given)) (sym is) (gs1_variants.BadCheck place digit wanted, gives, refl)
 
--- and so is a fault of encoding
-pub set_answered : (given : Result (List ℕ) SetFault) (fault : SetFault) (f : Fault) → f ≡ set_fault fault
-    → IfSome (set_refusal fault) (λ refused. given ≡ Err refused) → Refuses (answered set_fault given) f
-set_answered given set_variants.NoMemory f is gives = subst (Refuses (answered set_fault given)) (sym is) tt
-set_answered given set_variants.UnknownEci f is gives = subst (Refuses (answered set_fault given)) (sym is) (set_variants.UnknownEci, gives, refl)
-set_answered given (set_variants.NoCharacter place) f is gives = subst (Refuses (answered set_fault given)) (sym is) (set_variants.NoCharacter place, gives, refl)
-set_answered given (set_variants.BadBytes place) f is gives = subst (Refuses (answered set_fault given)) (sym is) (set_variants.BadBytes place, gives, refl)
+-- a known set has a name
+named : (n : ℕ) → is_character_set n ≡ true → is_some (set_numbered n) ≡ true
+unfolding set_numbered
+named n known = known_has (λ set. is_some (set_numbered set)) n refl known
+
+unknown_unnamed : (set : Option CharacterSet) (characters : List ℕ) → is_some set ≡ true → text_encoding set characters ≡ Err set_variants.UnknownEci → ⊥
+unfolding text_encoding
+unknown_unnamed None characters is unknown = cc
+unknown_unnamed (Some set) characters is unknown =
+    elim (first_lacking set 0 characters) as (λ place. unless_lacking place (joined_bytes set characters) ≡ Err set_variants.UnknownEci → ⊥) [
+      | None ↦ λ same. cc
+      | Some place ↦ λ same. cc
+    ] unknown
+
+-- so encoding in a known set finds no unknown one
+pub never_unknown : (eci : ℕ) (characters : List ℕ) (fault : SetFault) → is_character_set eci ≡ true → fault ≡ set_variants.UnknownEci
+    → IfSome (set_refusal fault) (λ refused. text_encoding (set_numbered eci) characters ≡ Err refused) → ⊥
+never_unknown eci characters set_variants.UnknownEci known is gives = unknown_unnamed (set_numbered eci) characters (named eci known) gives
+never_unknown eci characters set_variants.NoMemory known is gives = cc
+never_unknown eci characters (set_variants.NoCharacter place) known is gives = cc
+never_unknown eci characters (set_variants.BadBytes place) known is gives = cc
+
+-- and encoding finds no bad bytes
+no_bad_bytes : (set : Option CharacterSet) (characters : List ℕ) (place : ℕ) → text_encoding set characters ≡ Err (set_variants.BadBytes place) → ⊥
+unfolding text_encoding
+no_bad_bytes None characters place bad = cc
+no_bad_bytes (Some set) characters place bad =
+    elim (first_lacking set 0 characters) as (λ lacking. unless_lacking lacking (joined_bytes set characters) ≡ Err (set_variants.BadBytes place) → ⊥) [
+      | None ↦ λ same. cc
+      | Some other ↦ λ same. cc
+    ] bad
+
+pub never_bad_bytes : (set : Option CharacterSet) (characters : List ℕ) (fault : SetFault) (place : ℕ) → fault ≡ set_variants.BadBytes place
+    → IfSome (set_refusal fault) (λ refused. text_encoding set characters ≡ Err refused) → ⊥
+never_bad_bytes set characters (set_variants.BadBytes other) place is gives = no_bad_bytes set characters other gives
+never_bad_bytes set characters set_variants.UnknownEci place is gives = cc
+never_bad_bytes set characters set_variants.NoMemory place is gives = cc
+never_bad_bytes set characters (set_variants.NoCharacter other) place is gives = cc
 
 -- no bytes encode the empty text alone
 encoded_nothing : (set : CharacterSet) → Encoded set [] []
@@ -98,40 +150,26 @@ some_encoded (Some set) text [] is some =
     absurd (omega (arith, ap (λ (t : List ℕ). length t) empty, some))
 some_encoded (Some set) text (byte ∷ bytes) is some = omega arith
 
--- the first of numbers up to a bound, or the bound
-found_few : (p : ℕ → Bool) (numbers : List ℕ) (most : ℕ) → list_all (λ n. nat_le n most) numbers ≡ true
-    → unwrap_or (find p numbers) most ≤ most
-found_few p [] most all = omega arith
-found_few p (number ∷ numbers) most all =
-    let parts = and_parts (nat_le number most) (list_all (λ n. nat_le n most) numbers) all in
-    elim (p number) as (λ b. unwrap_or (if b then Some number else find p numbers) most ≤ most) [
-      | true ↦ leb-true number most parts.0
-      | false ↦ found_few p numbers most parts.1
+-- the first of known numbers, or another known one
+found_known : (p : ℕ → Bool) (numbers : List ℕ) (other : ℕ) → list_all is_character_set numbers ≡ true → is_character_set other ≡ true
+    → is_character_set (unwrap_or (find p numbers) other) ≡ true
+found_known p [] other all known = known
+found_known p (number ∷ numbers) other all known =
+    let parts = and_parts (is_character_set number) (list_all is_character_set numbers) all in
+    elim (p number) as (λ b. is_character_set (unwrap_or (if b then Some number else find p numbers) other) ≡ true) [
+      | true ↦ parts.0
+      | false ↦ found_known p numbers other parts.1 known
     ]
 
-pub few_chosen : (characters : List ℕ) → chosen_eci characters ≤ 26
-unfolding chosen_eci
-few_chosen characters =
-    found_few (λ eci. has_characters characters (set_numbered eci)) (3 ∷ 7 ∷ 11 ∷ 17 ∷ 22 ∷ 23 ∷ []) 26 refl
+pub known_chosen : (characters : List ℕ) → is_character_set (chosen_eci characters) ≡ true
+unfolding chosen_eci is_character_set
+known_chosen characters =
+    found_known (λ eci. has_characters characters (set_numbered eci)) (3 ∷ 7 ∷ 11 ∷ 17 ∷ 22 ∷ 23 ∷ []) 26 refl refl
 
-pub ruleset few_sets = (few_chosen)
-
--- the sets that are known have few numbers
-any_few : (sets : List ℕ) (most n : ℕ) → list_all (λ set. nat_le set most) sets ≡ true → list_any (λ set. set == n) sets ≡ true → n ≤ most
-any_few [] most n all is = cc
-any_few (set ∷ sets) most n all is =
-    let parts = and_parts (nat_le set most) (list_all (λ s. nat_le s most) sets) all in
-    elim (set == n) as (λ b. (set == n) ≡ b → (b || list_any (λ s. s == n) sets) ≡ true → n ≤ most) [
-      | true ↦ λ same found. let e : set ≡ n = eqb-true set n same in omega (arith, leb-true set most parts.0, e)
-      | false ↦ λ differs found. any_few sets most n parts.1 found
-    ] refl is
-
-pub known_sets : (eci : Option ℕ) → ForSome eci (λ n. is_character_set n ≡ true) → IfSome eci (λ number. number ≤ 999999)
-unfolding is_character_set
+-- the ECI of settings is known
+pub known_sets : (eci : Option ℕ) → ForSome eci (λ n. is_character_set n ≡ true) → IsKnownEci eci
 known_sets None known = tt
-known_sets (Some n) known =
-    let within : n ≤ 899 = any_few CHARACTER_SETS 899 n refl (known n refl) in
-    omega (arith, within)
+known_sets (Some n) known = known n refl
 
 -- bytes are elements of Code 128
 plain_bytes : (bytes : List ℕ) → All IsCode128Element (bytes_as_elements bytes)
@@ -148,7 +186,7 @@ plain_separator true = All-cons IsCode128Element element.Fnc1 [] tt (All-nil IsC
 plain_separator false = All-nil IsCode128Element
 
 -- and so are those of element strings
-plain_strings : (needed : Bool) (strings : List ElementString) → All IsCode128Element (body_behind needed strings)
+pub plain_strings : (needed : Bool) (strings : List ElementString) → All IsCode128Element (body_behind needed strings)
 unfolding body_behind
 plain_strings needed [] = All-nil IsCode128Element
 plain_strings needed (string ∷ more) =

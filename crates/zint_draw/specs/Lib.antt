@@ -1,4 +1,6 @@
 pub mod Data
 pub mod Drawing
+pub mod Height
 pub mod Message
+pub mod Segments
 pub mod symbologies

@@ -1,5 +1,5 @@
 -- From data to the message of a symbol: GS1 element strings, bytes, or text in a character set.
-use Rattle.std.specs.Prelude.{◌≡◌, ◌≤◌, ◌<◌, ◌==◌, ℕ, Bool, true, false, List, length, Option, Some, None, Result, Ok, Err, IfSome, nat_lt, unwrap_or, if◌then◌else◌}
+use Rattle.std.specs.Prelude.{◌≡◌, ◌<◌, ◌==◌, ℕ, Bool, true, false, List, length, Option, Some, None, Result, Ok, Err, IfSome, nat_lt, unwrap_or, if◌then◌else◌}
 use Rattle.std.specs.Str.{chars}
 use Rattle.std.specs.Str.Lossy.{utf8_valid_len}
 use Rattle.bar_base.specs.declared.element.Element.{Element}
@@ -8,18 +8,17 @@ use Rattle.aztec_modes.specs.Entry.{bytes_as_elements}
 use Rattle.aztec_modes.specs.Message.{IsMessage, message_elements}
 use Rattle.eci_sets.specs.CharacterSets.{set_numbered}
 use Rattle.eci_sets.specs.Encodings.{chosen_eci, text_encoding}
-use Rattle.eci_sets.specs.declared.fault.SetFault.{SetFault}
-use Rattle.eci_sets.specs.declared.fault.SetFault.TheVariants as set_variants
+use Rattle.eci_sets.specs.declared.fault.SetFault.TheVariants.{NoCharacter}
 use Rattle.gs1_check.specs.ElementStrings.{brackets_of, text_body}
 use Rattle.gs1_check.specs.declared.fault.Gs1Fault.{Gs1Fault}
 use Rattle.gs1_check.specs.declared.fault.Gs1Fault.TheVariants as gs1_variants
 use Rattle.zint_texts.specs.Steps.{Step, ◌>>=◌, answered, only}
-use Rattle.zint_texts.specs.declared.detail.Kind.{Kind}
 use Rattle.zint_texts.specs.declared.detail.Kind.TheVariants.{Text, Character, Bracket, Identifier, Length, Date}
 use Rattle.zint_texts.specs.declared.fault.Fault.{Fault}
 use Rattle.zint_texts.specs.declared.fault.Fault.TheVariants.{NoMemory, Refused}
 use Rattle.zint_texts.specs.declared.refusal.Refusal.{Refusal}
 use Rattle.zint_texts.specs.declared.refusal.Refusal.TheVariants.{BadCheck, BadData}
+use Rattle.zint_words.specs.Numbers.{is_character_set}
 use Rattle.zint_words.specs.declared.drawing_options.DrawingOptions.{DrawingOptions}
 use Rattle.zint_words.specs.declared.drawing_options.Gs1Brackets.{Gs1Brackets}
 use Rattle.zint_words.specs.declared.drawing_options.Gs1Brackets.TheVariants.{Round, Square}
@@ -35,11 +34,14 @@ kind_by None binary eci = if binary then kind.Bytes eci else kind.Text eci
 abbrev pub data_kind : DrawingOptions → DataKind
 data_kind options = kind_by options.gs1 options.binary options.eci
 
--- An ECI that is named has at most six digits.
+-- An ECI that is named is that of a character set.
+abbrev pub IsKnownEci : Option ℕ → Type 0
+IsKnownEci eci = IfSome eci (λ number. is_character_set number ≡ true)
+
 abbrev pub IsDataKind : DataKind → Type 0
 IsDataKind (kind.Gs1 parens) = Unit {0}
-IsDataKind (kind.Bytes eci) = IfSome eci (λ number. number ≤ 999999)
-IsDataKind (kind.Text eci) = IfSome eci (λ number. number ≤ 999999)
+IsDataKind (kind.Bytes eci) = IsKnownEci eci
+IsDataKind (kind.Text eci) = IsKnownEci eci
 IsDataKind kind.Latin1 = Unit {0}
 
 -- No ECI is written.
@@ -91,25 +93,24 @@ abbrev pub written_eci : Option ℕ → (text : List ℕ) → Option ℕ
 written_eci (Some eci) text = Some eci
 written_eci None text = unless_three (chosen_eci (chars text))
 
--- What a fault of encoding is here: a set lacks a character, and a number that names no set has none.
-abbrev pub set_fault : SetFault → Fault
-set_fault set_variants.NoMemory = NoMemory
-set_fault set_variants.UnknownEci = Refused (BadData Character 0)
-set_fault (set_variants.NoCharacter place) = Refused (BadData Character place)
-set_fault (set_variants.BadBytes place) = Refused (BadData Character place)
+-- The bytes of a text in the set of a number, or the place of the first character that the set lacks.
+abbrev pub encoded_in : (eci : ℕ) → (text : List ℕ) → Step (List ℕ)
+encoded_in eci text (Ok bytes) = text_encoding (set_numbered eci) (chars text) ≡ Ok bytes
+encoded_in eci text (Err refusal) = (place : ℕ)
+    × (text_encoding (set_numbered eci) (chars text) ≡ Err (NoCharacter place)) × (refusal ≡ BadData Character place)
 
 -- The message of text: its bytes in the set.
 unfoldable pub text_message : (eci : Option ℕ) (bytes : List ℕ) → Step Message
 text_message eci bytes = do
   text ← only (whole_text bytes)
-  encoded ← answered set_fault (text_encoding (set_numbered (set_for eci text)) (chars text))
+  encoded ← encoded_in (set_for eci text) text
   only (Ok (message_with false (written_eci eci text) (bytes_as_elements encoded)))
 
 -- The message of text in ISO/IEC 8859-1, whose ECI is not written.
 unfoldable pub latin1_message : (bytes : List ℕ) → Step Message
 latin1_message bytes = do
   text ← only (whole_text bytes)
-  encoded ← answered set_fault (text_encoding (set_numbered 3) (chars text))
+  encoded ← encoded_in 3 text
   only (Ok (message_with false None (bytes_as_elements encoded)))
 
 -- The message of data.

@@ -1,6 +1,6 @@
 //! From the content of a message to its data.
 ghost use Rattle.std.specs.Prelude.{◌≡◌, ◌<◌, IfOk, length};
-ghost use Rattle.zint_texts.specs.Steps.{Gives, only};
+ghost use Rattle.zint_texts.specs.Steps.{MayAnswer, only};
 ghost use Rattle.zint_draw.specs.Data.{data_of, not_empty, unescaped};
 
 use input_escapes::{EscapeFault, unescape};
@@ -10,7 +10,7 @@ use zint_texts::{Fault, Kind, Refusal};
 /// The data: with escapes what they stand for, and else the content itself.
 #[tactic(auto, unfolding(crate::specs::Data::data_of))]
 pub fn data_of(alloc: Global, escapes: bool, raw: Vec<u8>) -> Result<Vec<u8>, Fault>
-    ensures { Gives (λ bytes. bytes.items) result (data_of escapes raw.items) }
+    ensures { MayAnswer (λ bytes. bytes.items) result (data_of escapes raw.items) }
 {
     if escapes {
         unescaped(alloc, &raw)
@@ -21,7 +21,7 @@ pub fn data_of(alloc: Global, escapes: bool, raw: Vec<u8>) -> Result<Vec<u8>, Fa
 
 /// What a text with escapes stands for.
 fn unescaped(alloc: Global, text: &[u8]) -> Result<Vec<u8>, Fault>
-    ensures { Gives (λ bytes. bytes.items) result (unescaped text.now) }
+    ensures { MayAnswer (λ bytes. bytes.items) result (unescaped text.now) }
 {
     match unescape(alloc, text) {
         Ok(bytes) => Ok(bytes),
@@ -41,7 +41,7 @@ fn bad_escape(place: usize) -> Fault
 
 /// Data that is not empty.
 pub fn not_empty(bytes: &[u8]) -> Result<&[u8], Fault>
-    ensures given { Gives (λ some. some.now) result (only (not_empty bytes.now)) }
+    ensures given { MayAnswer (λ some. some.now) result (only (not_empty bytes.now)) }
     ensures some { IfOk result (λ some. 0 < length some.now) }
 {
     if bytes.is_empty() {

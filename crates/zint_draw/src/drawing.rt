@@ -1,21 +1,33 @@
 //! A drawing, step by step.
-ghost use Rattle.std.specs.Prelude.{◌≡◌};
-ghost use Rattle.zint_texts.specs.Steps.{Gives};
+ghost use Rattle.std.specs.Prelude.{◌≡◌, IfOk};
+ghost use Rattle.zint_texts.specs.Steps.{MayAnswer};
+ghost use Rattle.zint_words.specs.Settings.{drawing_in};
 ghost use Rattle.zint_draw.specs.Drawing.{draws};
+ghost use Rattle.zint_draw.specs.Height.{IsLowSymbol};
 
 use crate::data::{data_of, not_empty};
+use crate::segments::within_bytes;
 use crate::symbologies::{Symbol, draw_as};
 use std::alloc::Global;
 use zint_texts::Fault;
 use zint_words::DrawingSettings;
 
-/// The symbol that the settings ask for, of a content of at most 65,536 bytes, or the first refusal of it: by the data, which is empty or
-/// has a backslash that begins no escape, and then by the symbology.
-#[tactic(auto, using(zint_texts::proofs::Steps::stepping), unfolding(crate::specs::Drawing::draws))]
+/// The symbol that the settings ask for, of a content and the segments behind it, or the first refusal of them: by their bytes, of which
+/// there are at most 65,536 together, by the data, which is empty or has a backslash that begins no escape, and then by the symbology.
 pub fn draw(alloc: Global, settings: &DrawingSettings<'_>, raw: Vec<u8>) -> Result<Symbol, Fault>
-    ensures { Gives (λ symbol. symbol) result (draws settings.now.options raw.items) }
+    ensures given { MayAnswer (λ symbol. symbol) result (draws (drawing_in settings.now) raw.items) }
+    ensures low { IfOk result IsLowSymbol }
 {
-    let data = data_of(alloc, settings.options.escapes, raw)?;
+    drawn(alloc, settings, raw)
+}
+
+/// The steps of a drawing.
+#[tactic(auto, using(zint_texts::proofs::Steps::stepping), unfolding(crate::specs::Drawing::draws))]
+fn drawn(alloc: Global, settings: &DrawingSettings<'_>, raw: Vec<u8>) -> Result<Symbol, Fault>
+    ensures { MayAnswer (λ symbol. symbol) result (draws (drawing_in settings.now) raw.items) }
+{
+    let whole = within_bytes(settings, raw)?;
+    let data = data_of(alloc, settings.options.escapes, whole)?;
     let bytes = not_empty(&data)?;
     draw_as(alloc, settings, bytes)
 }

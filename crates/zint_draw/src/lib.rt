@@ -4,6 +4,7 @@
 mod data;
 mod drawing;
 mod message;
+mod segments;
 mod symbologies;
 
 pub use drawing::draw;

@@ -1,14 +1,12 @@
 //! From data to the message of a symbol: GS1 element strings, bytes, or text in a character set.
-ghost use Rattle.std.specs.Prelude.{◌≡◌, ◌≤◌, ◌<◌, All, IfOk, IfSome, None, Ok, false, length};
-ghost use Rattle.std.specs.Str.{chars};
+ghost use Rattle.std.specs.Prelude.{◌≡◌, ◌<◌, All, IfOk, None, Ok, false, length, true};
 ghost use Rattle.aztec_modes.specs.Entry.{bytes_as_elements};
 ghost use Rattle.aztec_modes.specs.Message.{message_elements};
 ghost use Rattle.code128_best.specs.Spelling.{IsCode128Element};
-ghost use Rattle.eci_sets.specs.CharacterSets.{set_numbered};
-ghost use Rattle.eci_sets.specs.Encodings.{text_encoding};
 ghost use Rattle.gs1_check.specs.ElementStrings.{brackets_of, text_body};
-ghost use Rattle.zint_texts.specs.Steps.{Gives, answered, only};
-ghost use Rattle.zint_draw.specs.Message.{CanBeDrawn, IsDataKind, WritesNoEci, data_kind, gs1_fault, gs1_message, latin1_message, message_for, message_with, set_fault, set_for, text_message, whole_text, written_eci};
+ghost use Rattle.zint_texts.specs.Steps.{MayAnswer, answered, only};
+ghost use Rattle.zint_words.specs.Numbers.{is_character_set};
+ghost use Rattle.zint_draw.specs.Message.{CanBeDrawn, IsDataKind, IsKnownEci, WritesNoEci, data_kind, encoded_in, gs1_fault, gs1_message, latin1_message, message_for, message_with, set_for, text_message, whole_text, written_eci};
 
 use bar_base::{Element, Elements, Message, NoMemory};
 use eci_sets::{SetFault, choose, encode};
@@ -34,7 +32,7 @@ pub enum DataKind {
 #[tactic(auto, using(crate::proofs::Messages::known_sets))]
 pub fn data_kind(settings: &DrawingSettings<'_>) -> DataKind
     ensures kind { result ≡ data_kind settings.now.options }
-    ensures number { IsDataKind result }
+    ensures known { IsDataKind result }
 {
     let options = settings.options;
     match options.gs1 {
@@ -59,7 +57,7 @@ const UNWRITTEN_ECI: u32 = 3;
 pub fn message_for(alloc: Global, kind: DataKind, bytes: &[u8]) -> Result<Message, Fault>
     requires kind { IsDataKind kind }
     requires some { 0 < length bytes.now }
-    ensures given { Gives (λ message. message) result (message_for kind bytes.now) }
+    ensures given { MayAnswer (λ message. message) result (message_for kind bytes.now) }
     ensures can_be_drawn { IfOk result CanBeDrawn }
     ensures plain { IfOk result (λ message. WritesNoEci kind → All IsCode128Element (message_elements message)) }
 {
@@ -84,9 +82,9 @@ fn message_with(gs1: bool, eci: Option<u32>, body: Elements) -> Message
 }
 
 /// The message of GS1 element strings.
-#[tactic(auto, using(zint_texts::proofs::Steps::stepping, crate::proofs::Messages::drawable, crate::proofs::Messages::plain), unfolding(crate::specs::Message::gs1_message))]
+#[tactic(auto, using(zint_texts::proofs::Steps::stepping, crate::proofs::Messages::gs1_drawable, crate::proofs::Messages::plain), unfolding(crate::specs::Message::gs1_message))]
 fn gs1_message(alloc: Global, parens: bool, bytes: &[u8]) -> Result<Message, Fault>
-    ensures given { Gives (λ message. message) result (gs1_message parens bytes.now) }
+    ensures given { MayAnswer (λ message. message) result (gs1_message parens bytes.now) }
     ensures can_be_drawn { IfOk result CanBeDrawn }
     ensures plain { IfOk result (λ message. All IsCode128Element (message_elements message)) }
 {
@@ -97,7 +95,7 @@ fn gs1_message(alloc: Global, parens: bool, bytes: &[u8]) -> Result<Message, Fau
 /// The body of GS1 element strings.
 #[tactic(auto, using(crate::proofs::Messages::gs1_answered, crate::proofs::Messages::plain))]
 fn gs1_body(alloc: Global, parens: bool, bytes: &[u8]) -> Result<Elements, Fault>
-    ensures given { Gives (λ body. body) result (answered gs1_fault (text_body (brackets_of parens) bytes.now)) }
+    ensures given { MayAnswer (λ body. body) result (answered gs1_fault (text_body (brackets_of parens) bytes.now)) }
     ensures plain { IfOk result (λ body. All IsCode128Element body) }
 {
     match parse(alloc, bytes, parens) {
@@ -133,11 +131,11 @@ fn bad_data(kind: Kind, place: usize) -> Fault
 }
 
 /// The message of bytes.
-#[tactic(auto, using(crate::proofs::Messages::drawable, crate::proofs::Messages::plain))]
+#[tactic(auto, using(crate::proofs::Messages::plain))]
 fn bytes_message(alloc: Global, eci: Option<u32>, bytes: &[u8]) -> Result<Message, Fault>
-    requires number { IfSome eci (λ number. number ≤ 999999) }
+    requires known { IsKnownEci eci }
     requires some { 0 < length bytes.now }
-    ensures given { Gives (λ message. message) result
+    ensures given { MayAnswer (λ message. message) result
         (only (Ok (message_with false eci (bytes_as_elements bytes.now)))) }
     ensures can_be_drawn { IfOk result CanBeDrawn }
     ensures plain { IfOk result (λ message. eci ≡ None → All IsCode128Element (message_elements message)) }
@@ -161,9 +159,9 @@ fn elements_of_bytes(alloc: Global, bytes: &[u8]) -> Result<Elements, NoMemory>
 /// The message of text, in the set of the ECI that is named, or in the first one that has every character.
 #[tactic(auto, using(zint_texts::proofs::Steps::stepping), unfolding(crate::specs::Message::text_message))]
 fn text_message(alloc: Global, eci: Option<u32>, bytes: &[u8]) -> Result<Message, Fault>
-    requires number { IfSome eci (λ number. number ≤ 999999) }
+    requires known { IsKnownEci eci }
     requires some { 0 < length bytes.now }
-    ensures given { Gives (λ message. message) result (text_message eci bytes.now) }
+    ensures given { MayAnswer (λ message. message) result (text_message eci bytes.now) }
     ensures can_be_drawn { IfOk result CanBeDrawn }
 {
     let text = whole_text(bytes)?;
@@ -174,10 +172,10 @@ fn text_message(alloc: Global, eci: Option<u32>, bytes: &[u8]) -> Result<Message
 }
 
 /// The message of text in ISO/IEC 8859-1, whose ECI is not written.
-#[tactic(auto, using(zint_texts::proofs::Steps::stepping), unfolding(crate::specs::Message::latin1_message))]
+#[tactic(auto, using(zint_texts::proofs::Steps::stepping), unfolding(crate::specs::Message::latin1_message, zint_words::specs::Numbers::is_character_set))]
 fn latin1_message(alloc: Global, bytes: &[u8]) -> Result<Message, Fault>
     requires some { 0 < length bytes.now }
-    ensures given { Gives (λ message. message) result (latin1_message bytes.now) }
+    ensures given { MayAnswer (λ message. message) result (latin1_message bytes.now) }
     ensures can_be_drawn { IfOk result CanBeDrawn }
     ensures plain { IfOk result (λ message. All IsCode128Element (message_elements message)) }
 {
@@ -190,7 +188,7 @@ fn latin1_message(alloc: Global, bytes: &[u8]) -> Result<Message, Fault>
 /// The text of bytes that are whole characters of UTF-8.
 #[tactic(auto, using(crate::proofs::Messages::whole_characters), unfolding(crate::specs::Message::whole_text))]
 fn whole_text(bytes: &[u8]) -> Result<&str, Fault>
-    ensures given { Gives (λ text. text.now) result (only (whole_text bytes.now)) }
+    ensures given { MayAnswer (λ text. text.now) result (only (whole_text bytes.now)) }
     ensures same { IfOk result (λ text. text.now ≡ bytes.now) }
 {
     match str::from_utf8(bytes) {
@@ -200,12 +198,13 @@ fn whole_text(bytes: &[u8]) -> Result<&str, Fault>
 }
 
 /// The number of the set in which a text is encoded, and the ECI that is written.
-#[tactic(auto, using(crate::proofs::Messages::few_sets))]
+#[tactic(auto, using(crate::proofs::Messages::known_chosen))]
 fn sets_for(eci: Option<u32>, text: &str) -> (u32, Option<u32>)
-    requires { IfSome eci (λ number. number ≤ 999999) }
+    requires { IsKnownEci eci }
     ensures set { result.0 ≡ set_for eci text.now }
     ensures written { result.1 ≡ written_eci eci text.now }
-    ensures number { IfSome result.1 (λ number. number ≤ 999999) }
+    ensures known { is_character_set result.0 ≡ true }
+    ensures written_known { IsKnownEci result.1 }
 {
     match eci {
         Some(number) => (number, eci),
@@ -223,28 +222,19 @@ fn sets_for(eci: Option<u32>, text: &str) -> (u32, Option<u32>)
     }
 }
 
-/// The bytes of a text in the set of a number.
-#[tactic(auto, using(crate::proofs::Messages::set_answered, crate::proofs::Messages::some_encoded))]
+/// The bytes of a text in the set of a number, which names one.
+#[tactic(auto, using(crate::proofs::Messages::some_encoded))]
 fn encoded_in(alloc: Global, text: &str, eci: u32) -> Result<Vec<u8>, Fault>
-    requires { 0 < length text.now }
-    ensures given { Gives (λ bytes. bytes.items) result
-        (answered set_fault (text_encoding (set_numbered eci) (chars text.now))) }
+    requires known { is_character_set eci ≡ true }
+    requires some { 0 < length text.now }
+    ensures given { MayAnswer (λ bytes. bytes.items) result (encoded_in eci text.now) }
     ensures some { IfOk result (λ bytes. 0 < length bytes.items) }
 {
     match encode(alloc, text, eci) {
         Ok(bytes) => Ok(bytes),
-        Err(fault) => Err(set_fault(fault)),
-    }
-}
-
-/// What a fault of encoding is here: a set lacks a character, and a number that names no set has none.
-fn set_fault(fault: SetFault) -> Fault
-    ensures { result ≡ set_fault fault }
-{
-    match fault {
-        SetFault::NoMemory => Fault::NoMemory,
-        SetFault::UnknownEci => bad_data(Kind::Character, 0),
-        SetFault::NoCharacter(place) => bad_data(Kind::Character, place),
-        SetFault::BadBytes(place) => bad_data(Kind::Character, place),
+        Err(SetFault::NoMemory) => Err(Fault::NoMemory),
+        Err(SetFault::NoCharacter(place)) => Err(bad_data(Kind::Character, place)),
+        Err(SetFault::UnknownEci) => unreachable!(),
+        Err(SetFault::BadBytes(_)) => unreachable!(),
     }
 }

@@ -8,14 +8,17 @@ pub mod linear;
 pub mod rm4scc;
 pub mod rune;
 
-ghost use Rattle.std.specs.Prelude.{◌≡◌, ◌<◌, IfOk, length};
-ghost use Rattle.zint_texts.specs.Steps.{Gives};
+ghost use Rattle.std.specs.Prelude.{◌≡◌, ◌<◌, ◌≤◌, IfOk, length};
+ghost use Rattle.zint_texts.specs.Steps.{MayAnswer};
+ghost use Rattle.zint_words.specs.Settings.{drawing_in};
+ghost use Rattle.zint_draw.specs.Segments.{bytes_in_segments};
 ghost use Rattle.zint_draw.specs.symbologies.{draws_as, grid_of, head_of};
 
 use crate::symbologies::code128::Code128Symbol;
+use crate::symbologies::linear::{linear_head, row_of_height};
 use crate::symbologies::rune::RuneSymbol;
-use aztec_draw::Symbol as AztecSymbol;
-use bar_base::{Grid, Linear, NoMemory};
+use aztec_draw::AztecSymbol;
+use bar_base::{Grid, Linear, MOST_BYTES, NoMemory};
 use std::alloc::Global;
 use zint_texts::Fault;
 use zint_words::{DrawingSettings, Symbology};
@@ -26,18 +29,18 @@ pub enum Symbol {
     Aztec(AztecSymbol),
     Rune(RuneSymbol),
     Code128(Code128Symbol),
-    Code39(Linear),
-    ExtendedCode39(Linear),
-    Code93(Linear),
-    Itf14(Linear),
-    Rm4scc(Linear),
+    /// A symbol of one row of bars, and its symbology.
+    Linear(Symbology, Linear),
+    /// The three rows of a four-state symbol.
+    FourState(Linear),
 }
 
-/// The symbol of data that is not empty, by the symbology.
+/// The symbol of data that is not empty, by the symbology; only Aztec takes a structured append set and segments.
 #[tactic(auto, unfolding(crate::specs::symbologies::draws_as))]
 pub fn draw_as(alloc: Global, settings: &DrawingSettings<'_>, bytes: &[u8]) -> Result<Symbol, Fault>
-    requires { 0 < length bytes.now }
-    ensures { Gives (λ symbol. symbol) result (draws_as settings.now.options bytes.now) }
+    requires some { 0 < length bytes.now }
+    requires few { bytes_in_segments (drawing_in settings.now).segments ≤ MOST_BYTES }
+    ensures { MayAnswer (λ symbol. symbol) result (draws_as (drawing_in settings.now) bytes.now) }
 {
     match settings.options.symbology {
         Symbology::Aztec => aztec::draw(alloc, settings, bytes),
@@ -60,27 +63,23 @@ impl Symbol {
             Symbol::Aztec(symbol) => aztec::head(alloc, symbol),
             Symbol::Rune(symbol) => rune::head(alloc, symbol),
             Symbol::Code128(symbol) => code128::head(alloc, symbol),
-            Symbol::Code39(symbol) => code39::head(alloc, symbol),
-            Symbol::ExtendedCode39(symbol) => code39::head_full(alloc, symbol),
-            Symbol::Code93(symbol) => code93::head(alloc, symbol),
-            Symbol::Itf14(symbol) => itf14::head(alloc, symbol),
-            Symbol::Rm4scc(symbol) => rm4scc::head(alloc, symbol),
+            Symbol::Linear(symbology, symbol) => linear_head(alloc, *symbology, symbol),
+            Symbol::FourState(symbol) => rm4scc::head(alloc, symbol),
         }
     }
 
-    /// The modules.
-    pub fn into_grid(self) -> Grid
-        ensures { result ≡ grid_of self }
+    /// The modules. The row of a linear symbol has this height, 1 to 200 modules; every other row has its own.
+    pub fn into_grid(self, height: u32) -> Grid
+        requires positive { 1 ≤ height }
+        requires bounded { height ≤ 200 }
+        ensures { result ≡ grid_of height self }
     {
         match self {
             Symbol::Aztec(symbol) => symbol.grid,
             Symbol::Rune(symbol) => symbol.grid,
-            Symbol::Code128(symbol) => symbol.grid,
-            Symbol::Code39(symbol) => symbol.grid,
-            Symbol::ExtendedCode39(symbol) => symbol.grid,
-            Symbol::Code93(symbol) => symbol.grid,
-            Symbol::Itf14(symbol) => symbol.grid,
-            Symbol::Rm4scc(symbol) => symbol.grid,
+            Symbol::Code128(symbol) => row_of_height(symbol.grid, height),
+            Symbol::Linear(_, symbol) => row_of_height(symbol.grid, height),
+            Symbol::FourState(symbol) => symbol.grid,
         }
     }
 }

@@ -1,5 +1,5 @@
 -- Aztec Code (ISO/IEC 24778).
-use Rattle.std.specs.Prelude.{◌≡◌, ◌-◌, ℕ, List, ◌++◌, map, length, codes, decimal, nat_lt, Result, Ok, Err, if◌then◌else◌}
+use Rattle.std.specs.Prelude.{◌-◌, ℕ, List, ◌++◌, map, length, codes, decimal, is_some, nat_lt, Result, Ok, Err, if◌then◌else◌}
 use Rattle.bar_base.specs.GridText.{module_text}
 use Rattle.bar_base.specs.declared.element.Element.{Element}
 use Rattle.aztec_best.specs.declared.limit.TheConstants.{MOST_ELEMENTS}
@@ -7,14 +7,14 @@ use Rattle.aztec_modes.specs.Message.{message_elements}
 use Rattle.aztec_layout.specs.Allowed.{allowed_of}
 use Rattle.aztec_layout.specs.Sizes.{codewords_of, side_of}
 use Rattle.aztec_draw.specs.Symbol.{IsAztecSymbol, HasNoSymbol}
-use Rattle.aztec_draw.specs.declared.symbol.Symbol.{Symbol as AztecSymbol}
+use Rattle.aztec_draw.specs.declared.symbol.AztecSymbol.{AztecSymbol}
 use Rattle.zint_texts.specs.Report.{size_text}
 use Rattle.zint_texts.specs.Steps.{Step, ◌>>=◌, only}
 use Rattle.zint_texts.specs.declared.detail.Unit.TheVariants.{Elements}
 use Rattle.zint_texts.specs.declared.refusal.Refusal.{Refusal}
 use Rattle.zint_texts.specs.declared.refusal.Refusal.TheVariants.{TooLong, NoFit}
-use Rattle.zint_words.specs.declared.drawing_options.DrawingOptions.{DrawingOptions}
-use Rattle.zint_draw.specs.Message.{data_kind, message_for}
+use Rattle.zint_words.specs.Settings.{DrawingRequest}
+use Rattle.zint_draw.specs.Segments.{message_of}
 use Rattle.zint_draw.specs.declared.symbologies.Symbol.{Symbol}
 use Rattle.zint_draw.specs.declared.symbologies.Symbol.TheVariants.{Aztec}
 
@@ -23,31 +23,31 @@ abbrev pub within_limit : (elements : List Element) → Result (List Element) Re
 within_limit elements =
     if nat_lt MOST_ELEMENTS (length elements) then Err (TooLong MOST_ELEMENTS Elements) else Ok elements
 
--- the elements of data: those of its message
-unfoldable pub elements_for : DrawingOptions → (bytes : List ℕ) → Step (List Element)
-elements_for options bytes = do
-  message ← message_for (data_kind options) bytes
+-- the elements of data and of the segments behind it: those of their message
+unfoldable pub elements_for : DrawingRequest → (bytes : List ℕ) → Step (List Element)
+elements_for request bytes = do
+  message ← message_of request bytes
   only (within_limit (message_elements message))
 
--- The symbol of elements: of all their spellings with fewest bits the first in dictionary order, in the smallest allowed size that holds
--- it at the share; or that no allowed size holds them.
-abbrev pub draws_elements : DrawingOptions → (elements : List Element) → Step Symbol
-draws_elements options elements (Ok (Aztec symbol)) =
-    IsAztecSymbol elements (allowed_of options.share options.version) symbol
-draws_elements options elements (Ok _) = ⊥
-draws_elements options elements (Err (NoFit misfit)) =
-    HasNoSymbol elements (allowed_of options.share options.version) misfit
-draws_elements options elements (Err _) = ⊥
+-- The symbol of elements, which has the mark of a structured append set where it is one of a set: of all their spellings with fewest bits
+-- the first in dictionary order, in the smallest allowed size that holds it at the share; or that no allowed size holds them.
+abbrev pub draws_elements : DrawingRequest → (elements : List Element) → Step Symbol
+draws_elements request elements (Ok (Aztec symbol)) =
+    IsAztecSymbol (is_some request.append) elements (allowed_of request.options.share request.options.version) symbol
+draws_elements request elements (Ok _) = ⊥
+draws_elements request elements (Err (NoFit misfit)) =
+    HasNoSymbol (is_some request.append) elements (allowed_of request.options.share request.options.version) misfit
+draws_elements request elements (Err _) = ⊥
 
--- the symbol of data
-unfoldable pub draws : DrawingOptions → (bytes : List ℕ) → Step Symbol
-draws options bytes = do
-  elements ← elements_for options bytes
-  draws_elements options elements
+-- the symbol of data, and of the segments behind it
+unfoldable pub draws_aztec : DrawingRequest → (bytes : List ℕ) → Step Symbol
+draws_aztec request bytes = do
+  elements ← elements_for request bytes
+  draws_elements request elements
 
 -- the lines of the report before the grid
-abbrev pub head_of : AztecSymbol → List ℕ
-head_of symbol =
+abbrev pub aztec_head : AztecSymbol → List ℕ
+aztec_head symbol =
     codes "symbol=92\nbits=" ++ decimal (length symbol.spelling)
     ++ codes "\nspelling=" ++ map module_text symbol.spelling
     ++ codes "\nsize=" ++ size_text symbol.size

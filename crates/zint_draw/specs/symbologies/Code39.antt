@@ -1,6 +1,5 @@
 -- Code 39 and extended Code 39 (ISO/IEC 16388).
 use Rattle.std.specs.Prelude.{ℕ, List, Ok, is_some}
-use Rattle.bar_base.specs.declared.linear.Linear.{Linear}
 use Rattle.linear_codes.specs.Code39.{code39_full_of, code39_of}
 use Rattle.linear_codes.specs.declared.code39_symbol.TheConstants.{CODE39_MOST_BYTES}
 use Rattle.zint_texts.specs.Steps.{Step, ◌>>=◌, answered, only}
@@ -8,24 +7,16 @@ use Rattle.zint_words.specs.declared.drawing_options.DrawingOptions.{DrawingOpti
 use Rattle.zint_words.specs.declared.symbology.Symbology.TheVariants as symbology
 use Rattle.zint_draw.specs.declared.symbologies.Symbol.{Symbol}
 use Rattle.zint_draw.specs.declared.symbologies.Symbol.TheVariants as symbol
-use Rattle.zint_draw.specs.symbologies.Linear.{linear_fault, linear_head}
+use Rattle.zint_draw.specs.symbologies.Linear.{linear_fault}
 
 -- the symbol of data
 unfoldable pub draws39 : DrawingOptions → (bytes : List ℕ) → Step Symbol
 draws39 options bytes = do
   drawn ← answered (linear_fault CODE39_MOST_BYTES) (code39_of bytes (is_some options.version))
-  only (Ok (symbol.Code39 drawn))
-
--- the lines of the report before the grid
-abbrev pub head39 : Linear → List ℕ
-head39 drawn = linear_head symbology.Code39 drawn
+  only (Ok (symbol.Linear symbology.Code39 drawn))
 
 -- the symbol of data in full ASCII
 unfoldable pub draws39_full : (bytes : List ℕ) → Step Symbol
 draws39_full bytes = do
   drawn ← answered (linear_fault CODE39_MOST_BYTES) (code39_full_of bytes)
-  only (Ok (symbol.ExtendedCode39 drawn))
-
--- the lines of the report before the grid
-abbrev pub head39_full : Linear → List ℕ
-head39_full drawn = linear_head symbology.ExtendedCode39 drawn
+  only (Ok (symbol.Linear symbology.ExtendedCode39 drawn))

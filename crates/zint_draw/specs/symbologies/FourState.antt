@@ -13,7 +13,7 @@ use Rattle.zint_draw.specs.symbologies.Linear.{linear_fault, linear_head}
 unfoldable pub draws_four_state : (bytes : List ℕ) → Step Symbol
 draws_four_state bytes = do
   drawn ← answered (linear_fault RM4SCC_MOST_BYTES) (rm4scc_of bytes)
-  only (Ok (symbol.Rm4scc drawn))
+  only (Ok (symbol.FourState drawn))
 
 -- the lines of the report before the grid
 abbrev pub head_four_state : Linear → List ℕ

@@ -1,20 +1,15 @@
 -- ITF-14: interleaved 2 of 5 (ISO/IEC 16390) of fourteen digits.
 use Rattle.std.specs.Prelude.{ℕ, List, Ok}
-use Rattle.bar_base.specs.declared.linear.Linear.{Linear}
 use Rattle.linear_codes.specs.Itf14.{itf14_of}
 use Rattle.linear_codes.specs.declared.itf14_symbol.TheConstants.{ITF14_MOST_DIGITS}
 use Rattle.zint_texts.specs.Steps.{Step, ◌>>=◌, answered, only}
 use Rattle.zint_words.specs.declared.symbology.Symbology.TheVariants as symbology
 use Rattle.zint_draw.specs.declared.symbologies.Symbol.{Symbol}
 use Rattle.zint_draw.specs.declared.symbologies.Symbol.TheVariants as symbol
-use Rattle.zint_draw.specs.symbologies.Linear.{linear_fault, linear_head}
+use Rattle.zint_draw.specs.symbologies.Linear.{linear_fault}
 
 -- the symbol of data
 unfoldable pub draws14 : (bytes : List ℕ) → Step Symbol
 draws14 bytes = do
   drawn ← answered (linear_fault ITF14_MOST_DIGITS) (itf14_of bytes)
-  only (Ok (symbol.Itf14 drawn))
-
--- the lines of the report before the grid
-abbrev pub head14 : Linear → List ℕ
-head14 drawn = linear_head symbology.Itf14 drawn
+  only (Ok (symbol.Linear symbology.Itf14 drawn))

@@ -1,5 +1,6 @@
--- What the linear symbols and the four-state symbol share: what their faults are here, and the lines of their reports.
+-- What the linear symbols and the four-state symbol share: what their faults are here, the lines of their reports, the height of a row.
 use Rattle.std.specs.Prelude.{ℕ, List, [], ◌∷◌, ◌++◌, codes, decimal}
+use Rattle.bar_base.specs.Picture.{Picture, with_height}
 use Rattle.bar_base.specs.declared.linear.Linear.{Linear}
 use Rattle.bar_base.specs.declared.linear.LinearFault.{LinearFault}
 use Rattle.bar_base.specs.declared.linear.LinearFault.TheVariants as linear_variants
@@ -29,3 +30,7 @@ abbrev pub linear_head : Symbology → Linear → List ℕ
 linear_head symbology symbol =
     codes "symbol=" ++ decimal (symbology_number symbology) ++ codes "\n" ++ check_line symbol.checks
     ++ codes "modules=" ++ decimal symbol.grid.width ++ codes "\ngrid:\n"
+
+-- the modules of a linear symbol, whose one row has a height
+abbrev pub row_of_height : (height : ℕ) → Picture → Picture
+row_of_height height picture = with_height picture 0 height

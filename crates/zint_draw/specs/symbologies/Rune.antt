@@ -1,5 +1,5 @@
 -- Aztec runes (ISO/IEC 24778): a number from 0 to 255.
-use Rattle.std.specs.Prelude.{◌≡◌, ℕ, Bool, List, ◌++◌, codes, Option, Some, None, Result, Ok, Err, ◌&&◌, nat_lt, nat_le, length, if◌then◌else◌}
+use Rattle.std.specs.Prelude.{ℕ, Bool, List, ◌++◌, codes, Option, Some, None, Result, Ok, Err, ◌&&◌, nat_lt, nat_le, length, if◌then◌else◌}
 use Rattle.std.specs.Char.{is_ascii_digit}
 use Rattle.std.specs.List.{list_all}
 use Rattle.std.specs.Str.Parse.{digits_value}
@@ -37,11 +37,11 @@ draws_value value (Ok _) = ⊥
 draws_value value (Err _) = ⊥
 
 -- the rune of data
-unfoldable pub draws : (bytes : List ℕ) → Step Symbol
-draws bytes = do
+unfoldable pub draws_rune : (bytes : List ℕ) → Step Symbol
+draws_rune bytes = do
   value ← only (rune_value bytes)
   draws_value value
 
 -- the lines of the report before the grid: the words of the mode message before the exclusive-or
-abbrev pub head_of : RuneSymbol → List ℕ
-head_of symbol = codes "symbol=128\nwords=" ++ numbers_text symbol.words ++ codes "\nside=11\ngrid:\n"
+abbrev pub rune_head : RuneSymbol → List ℕ
+rune_head symbol = codes "symbol=128\nwords=" ++ numbers_text symbol.words ++ codes "\nside=11\ngrid:\n"

@@ -1,50 +1,54 @@
 //! Aztec Code (ISO/IEC 24778).
 ghost use Rattle.std.specs.Prelude.{◌≡◌, ◌≤◌, ◌<◌, IfOk, length};
 ghost use Rattle.aztec_modes.specs.Message.{IsMessage, message_elements};
-ghost use Rattle.zint_texts.specs.Steps.{Gives, only};
-ghost use Rattle.zint_draw.specs.symbologies.Aztec.{draws, draws_elements, elements_for, head_of, within_limit};
+ghost use Rattle.zint_texts.specs.Steps.{MayAnswer, only};
+ghost use Rattle.zint_words.specs.Settings.{drawing_in};
+ghost use Rattle.zint_draw.specs.Segments.{bytes_in_segments};
+ghost use Rattle.zint_draw.specs.symbologies.Aztec.{aztec_head, draws_aztec, draws_elements, elements_for, within_limit};
 
-use crate::message::{data_kind, message_for};
+use crate::segments::message_of;
 use crate::symbologies::Symbol;
 use aztec_best::MOST_ELEMENTS;
-use aztec_draw::{DrawFault, Symbol as AztecSymbol, draw_elements};
+use aztec_draw::{AztecSymbol, DrawFault, draw_elements};
 use aztec_layout::{Allowed, codewords, side};
 use aztec_modes::elements_of;
-use bar_base::{Elements, Message, NoMemory};
+use bar_base::{Elements, MOST_BYTES, Message, NoMemory};
 use std::alloc::Global;
 use zint_texts::{Fault, Refusal, Unit, put_bits, put_number, put_size, put_text};
 use zint_words::DrawingSettings;
 
-/// The symbol of data.
-#[tactic(auto, using(zint_texts::proofs::Steps::stepping), unfolding(crate::specs::symbologies::Aztec::draws))]
+/// The symbol of data, and of the segments behind it.
+#[tactic(auto, using(zint_texts::proofs::Steps::stepping), unfolding(crate::specs::symbologies::Aztec::draws_aztec))]
 pub fn draw(alloc: Global, settings: &DrawingSettings<'_>, bytes: &[u8]) -> Result<Symbol, Fault>
-    requires { 0 < length bytes.now }
-    ensures { Gives (λ symbol. symbol) result (draws settings.now.options bytes.now) }
+    requires some { 0 < length bytes.now }
+    requires few { bytes_in_segments (drawing_in settings.now).segments ≤ MOST_BYTES }
+    ensures { MayAnswer (λ symbol. symbol) result (draws_aztec (drawing_in settings.now) bytes.now) }
 {
     let elements = elements_for(alloc, settings, bytes)?;
     draw_spelling(alloc, settings, &elements)
 }
 
-/// The elements of data, of which there are not too many.
+/// The elements of data and of the segments behind it, of which there are not too many.
 #[tactic(auto, using(zint_texts::proofs::Steps::stepping), unfolding(crate::specs::symbologies::Aztec::elements_for))]
 fn elements_for(
     alloc: Global,
     settings: &DrawingSettings<'_>,
     bytes: &[u8],
 ) -> Result<Elements, Fault>
-    requires { 0 < length bytes.now }
-    ensures given { Gives (λ elements. elements) result (elements_for settings.now.options bytes.now) }
+    requires some { 0 < length bytes.now }
+    requires few { bytes_in_segments (drawing_in settings.now).segments ≤ MOST_BYTES }
+    ensures given { MayAnswer (λ elements. elements) result (elements_for (drawing_in settings.now) bytes.now) }
     ensures some { IfOk result (λ elements. 0 < length elements) }
     ensures within { IfOk result (λ elements. length elements ≤ MOST_ELEMENTS) }
 {
-    let message = message_for(alloc, data_kind(settings), bytes)?;
+    let message = message_of(alloc, settings, bytes)?;
     within_limit(alloc, &message)
 }
 
 /// The elements of a message, of which there are not too many.
 fn within_limit(alloc: Global, message: &Message) -> Result<Elements, Fault>
     requires { IsMessage message.now }
-    ensures given { Gives (λ elements. elements) result (only (within_limit (message_elements message.now))) }
+    ensures given { MayAnswer (λ elements. elements) result (only (within_limit (message_elements message.now))) }
     ensures same { IfOk result (λ elements. elements ≡ message_elements message.now) }
     ensures within { IfOk result (λ elements. length elements ≤ MOST_ELEMENTS) }
 {
@@ -55,7 +59,8 @@ fn within_limit(alloc: Global, message: &Message) -> Result<Elements, Fault>
     Ok(elements)
 }
 
-/// The symbol of elements.
+/// The symbol of elements, with the mark of a structured append set where it is one of a set.
+#[tactic(auto, using(crate::proofs::SegmentSteps::asked_for_set))]
 fn draw_spelling(
     alloc: Global,
     settings: &DrawingSettings<'_>,
@@ -63,10 +68,10 @@ fn draw_spelling(
 ) -> Result<Symbol, Fault>
     requires some { 0 < length elements.now }
     requires within { length elements.now ≤ MOST_ELEMENTS }
-    ensures { Gives (λ symbol. symbol) result (draws_elements settings.now.options elements.now) }
+    ensures { MayAnswer (λ symbol. symbol) result (draws_elements (drawing_in settings.now) elements.now) }
 {
     let allowed = Allowed::of(settings.options.share, settings.options.version);
-    match draw_elements(alloc, elements, allowed) {
+    match draw_elements(alloc, settings.append.is_some(), elements, allowed) {
         Ok(symbol) => Ok(Symbol::Aztec(symbol)),
         Err(DrawFault::NoMemory) => Err(Fault::NoMemory),
         Err(DrawFault::NoFit(misfit)) => Err(Fault::Refused(Refusal::NoFit(misfit))),
@@ -76,7 +81,7 @@ fn draw_spelling(
 /// The lines of the report before the grid: the number of bits and the bits of the spelling, the size, the modules of a side, the
 /// codewords that hold data and the check codewords.
 pub fn head(alloc: Global, symbol: &AztecSymbol) -> Result<Vec<u8>, NoMemory>
-    ensures { IfOk result (λ head. head.items ≡ head_of symbol.now) }
+    ensures { IfOk result (λ head. head.items ≡ aztec_head symbol.now) }
 {
     let mut head = Vec::new(alloc);
     put_text(&mut head, b"symbol=92\nbits=")?;

@@ -2,7 +2,7 @@
 ghost use Rattle.std.specs.Prelude.{◌≡◌, ◌≤◌, ◌<◌, All, IfOk, length};
 ghost use Rattle.aztec_modes.specs.Message.{IsMessage, message_elements};
 ghost use Rattle.code128_best.specs.Spelling.{AreDrawnValues, IsCode128Element};
-ghost use Rattle.zint_texts.specs.Steps.{Gives, only};
+ghost use Rattle.zint_texts.specs.Steps.{MayAnswer, only};
 ghost use Rattle.zint_draw.specs.Message.{IsDataKind, WritesNoEci};
 ghost use Rattle.zint_draw.specs.symbologies.Code128.{draws128, draws_values, elements128, head128, kind128, within_limit128};
 
@@ -30,7 +30,7 @@ pub struct Code128Symbol {
 #[tactic(auto, using(zint_texts::proofs::Steps::stepping), unfolding(crate::specs::symbologies::Code128::draws128))]
 pub fn draw(alloc: Global, settings: &DrawingSettings<'_>, bytes: &[u8]) -> Result<Symbol, Fault>
     requires { 0 < length bytes.now }
-    ensures { Gives (λ symbol. symbol) result (draws128 settings.now.options bytes.now) }
+    ensures { MayAnswer (λ symbol. symbol) result (draws128 settings.now.options bytes.now) }
 {
     let elements = elements_for(alloc, settings.options, bytes)?;
     draw_values(alloc, settings.options.symbology, &elements)
@@ -59,7 +59,7 @@ fn data_kind(options: DrawingOptions) -> DataKind
 #[tactic(auto, using(zint_texts::proofs::Steps::stepping), unfolding(crate::specs::symbologies::Code128::elements128))]
 fn elements_for(alloc: Global, options: DrawingOptions, bytes: &[u8]) -> Result<Elements, Fault>
     requires { 0 < length bytes.now }
-    ensures given { Gives (λ elements. elements) result (elements128 options bytes.now) }
+    ensures given { MayAnswer (λ elements. elements) result (elements128 options bytes.now) }
     ensures some { IfOk result (λ elements. 0 < length elements) }
     ensures within { IfOk result (λ elements. length elements ≤ MOST_ELEMENTS) }
     ensures each { IfOk result (λ elements. All IsCode128Element elements) }
@@ -71,7 +71,7 @@ fn elements_for(alloc: Global, options: DrawingOptions, bytes: &[u8]) -> Result<
 /// The elements of a message, of which there are not too many.
 fn within_limit(alloc: Global, message: &Message) -> Result<Elements, Fault>
     requires { IsMessage message.now }
-    ensures given { Gives (λ elements. elements) result (only (within_limit128 (message_elements message.now))) }
+    ensures given { MayAnswer (λ elements. elements) result (only (within_limit128 (message_elements message.now))) }
     ensures same { IfOk result (λ elements. elements ≡ message_elements message.now) }
     ensures within { IfOk result (λ elements. length elements ≤ MOST_ELEMENTS) }
 {
@@ -87,7 +87,7 @@ fn draw_values(alloc: Global, symbology: Symbology, elements: &Elements) -> Resu
     requires some { 0 < length elements.now }
     requires within { length elements.now ≤ MOST_ELEMENTS }
     requires each { All IsCode128Element elements.now }
-    ensures { Gives (λ symbol. symbol) result (draws_values symbology elements.now) }
+    ensures { MayAnswer (λ symbol. symbol) result (draws_values symbology elements.now) }
 {
     let values = drawn_values(alloc, elements)?;
     let grid = modules(alloc, &values)?;

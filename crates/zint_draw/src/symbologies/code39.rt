@@ -1,13 +1,13 @@
 //! Code 39 and extended Code 39 (ISO/IEC 16388).
-ghost use Rattle.std.specs.Prelude.{◌≡◌, IfOk};
+ghost use Rattle.std.specs.Prelude.{◌≡◌};
 ghost use Rattle.linear_codes.specs.Code39.{code39_full_of, code39_of};
-ghost use Rattle.zint_texts.specs.Steps.{Gives, answered};
-ghost use Rattle.zint_draw.specs.symbologies.Code39.{draws39, draws39_full, head39, head39_full};
+ghost use Rattle.zint_texts.specs.Steps.{MayAnswer, answered};
+ghost use Rattle.zint_draw.specs.symbologies.Code39.{draws39, draws39_full};
 ghost use Rattle.zint_draw.specs.symbologies.Linear.{linear_fault};
 
 use crate::symbologies::Symbol;
-use crate::symbologies::linear::{linear_fault, linear_head};
-use bar_base::{Linear, NoMemory};
+use crate::symbologies::linear::linear_fault;
+use bar_base::Linear;
 use linear_codes::{CODE39_MOST_BYTES, code39, code39_full};
 use std::alloc::Global;
 use zint_texts::Fault;
@@ -16,16 +16,17 @@ use zint_words::{DrawingSettings, Symbology};
 /// The symbol of data.
 #[tactic(auto, using(zint_texts::proofs::Steps::stepping), unfolding(crate::specs::symbologies::Code39::draws39))]
 pub fn draw(alloc: Global, settings: &DrawingSettings<'_>, bytes: &[u8]) -> Result<Symbol, Fault>
-    ensures { Gives (λ symbol. symbol) result (draws39 settings.now.options bytes.now) }
+    ensures { MayAnswer (λ symbol. symbol) result (draws39 settings.now.options bytes.now) }
 {
     let symbol = plain_symbol(alloc, settings.options.version.is_some(), bytes)?;
-    Ok(Symbol::Code39(symbol))
+    Ok(Symbol::Linear(Symbology::Code39, symbol))
 }
 
 /// The symbol of data, and its check values.
 #[tactic(auto, using(crate::proofs::LinearFaults::linear_answered))]
 fn plain_symbol(alloc: Global, check: bool, bytes: &[u8]) -> Result<Linear, Fault>
-    ensures { Gives (λ symbol. symbol) result (answered (linear_fault CODE39_MOST_BYTES) (code39_of bytes.now check)) }
+    ensures { MayAnswer (λ symbol. symbol) result
+        (answered (linear_fault CODE39_MOST_BYTES) (code39_of bytes.now check)) }
 {
     match code39(alloc, bytes, check) {
         Ok(symbol) => Ok(symbol),
@@ -33,36 +34,23 @@ fn plain_symbol(alloc: Global, check: bool, bytes: &[u8]) -> Result<Linear, Faul
     }
 }
 
-/// The lines of the report before the grid.
-pub fn head(alloc: Global, symbol: &Linear) -> Result<Vec<u8>, NoMemory>
-    ensures { IfOk result (λ head. head.items ≡ head39 symbol.now) }
-{
-    linear_head(alloc, Symbology::Code39, symbol)
-}
-
 /// The symbol of data in full ASCII.
 #[tactic(auto, using(zint_texts::proofs::Steps::stepping), unfolding(crate::specs::symbologies::Code39::draws39_full))]
 pub fn draw_full(alloc: Global, bytes: &[u8]) -> Result<Symbol, Fault>
-    ensures { Gives (λ symbol. symbol) result (draws39_full bytes.now) }
+    ensures { MayAnswer (λ symbol. symbol) result (draws39_full bytes.now) }
 {
     let symbol = full_symbol(alloc, bytes)?;
-    Ok(Symbol::ExtendedCode39(symbol))
+    Ok(Symbol::Linear(Symbology::ExtendedCode39, symbol))
 }
 
 /// The symbol of data in full ASCII, and its check values.
 #[tactic(auto, using(crate::proofs::LinearFaults::linear_answered))]
 fn full_symbol(alloc: Global, bytes: &[u8]) -> Result<Linear, Fault>
-    ensures { Gives (λ symbol. symbol) result (answered (linear_fault CODE39_MOST_BYTES) (code39_full_of bytes.now)) }
+    ensures { MayAnswer (λ symbol. symbol) result
+        (answered (linear_fault CODE39_MOST_BYTES) (code39_full_of bytes.now)) }
 {
     match code39_full(alloc, bytes) {
         Ok(symbol) => Ok(symbol),
         Err(fault) => Err(linear_fault(CODE39_MOST_BYTES, fault)),
     }
-}
-
-/// The lines of the report before the grid.
-pub fn head_full(alloc: Global, symbol: &Linear) -> Result<Vec<u8>, NoMemory>
-    ensures { IfOk result (λ head. head.items ≡ head39_full symbol.now) }
-{
-    linear_head(alloc, Symbology::ExtendedCode39, symbol)
 }

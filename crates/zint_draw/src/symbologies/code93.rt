@@ -1,13 +1,13 @@
 //! Code 93 (AIM Code 93).
-ghost use Rattle.std.specs.Prelude.{◌≡◌, IfOk};
+ghost use Rattle.std.specs.Prelude.{◌≡◌};
 ghost use Rattle.linear_codes.specs.Code93.{code93_of};
-ghost use Rattle.zint_texts.specs.Steps.{Gives, answered};
-ghost use Rattle.zint_draw.specs.symbologies.Code93.{draws93, head93};
+ghost use Rattle.zint_texts.specs.Steps.{MayAnswer, answered};
+ghost use Rattle.zint_draw.specs.symbologies.Code93.{draws93};
 ghost use Rattle.zint_draw.specs.symbologies.Linear.{linear_fault};
 
 use crate::symbologies::Symbol;
-use crate::symbologies::linear::{linear_fault, linear_head};
-use bar_base::{Linear, NoMemory};
+use crate::symbologies::linear::linear_fault;
+use bar_base::Linear;
 use linear_codes::{CODE93_MOST_BYTES, code93};
 use std::alloc::Global;
 use zint_texts::Fault;
@@ -16,26 +16,19 @@ use zint_words::Symbology;
 /// The symbol of data.
 #[tactic(auto, using(zint_texts::proofs::Steps::stepping), unfolding(crate::specs::symbologies::Code93::draws93))]
 pub fn draw(alloc: Global, bytes: &[u8]) -> Result<Symbol, Fault>
-    ensures { Gives (λ symbol. symbol) result (draws93 bytes.now) }
+    ensures { MayAnswer (λ symbol. symbol) result (draws93 bytes.now) }
 {
     let symbol = checked_symbol(alloc, bytes)?;
-    Ok(Symbol::Code93(symbol))
+    Ok(Symbol::Linear(Symbology::Code93, symbol))
 }
 
 /// The symbol of data, and its check values.
 #[tactic(auto, using(crate::proofs::LinearFaults::linear_answered))]
 fn checked_symbol(alloc: Global, bytes: &[u8]) -> Result<Linear, Fault>
-    ensures { Gives (λ symbol. symbol) result (answered (linear_fault CODE93_MOST_BYTES) (code93_of bytes.now)) }
+    ensures { MayAnswer (λ symbol. symbol) result (answered (linear_fault CODE93_MOST_BYTES) (code93_of bytes.now)) }
 {
     match code93(alloc, bytes) {
         Ok(symbol) => Ok(symbol),
         Err(fault) => Err(linear_fault(CODE93_MOST_BYTES, fault)),
     }
-}
-
-/// The lines of the report before the grid.
-pub fn head(alloc: Global, symbol: &Linear) -> Result<Vec<u8>, NoMemory>
-    ensures { IfOk result (λ head. head.items ≡ head93 symbol.now) }
-{
-    linear_head(alloc, Symbology::Code93, symbol)
 }

@@ -1,13 +1,13 @@
 //! ITF-14: interleaved 2 of 5 (ISO/IEC 16390) of fourteen digits.
-ghost use Rattle.std.specs.Prelude.{◌≡◌, IfOk};
+ghost use Rattle.std.specs.Prelude.{◌≡◌};
 ghost use Rattle.linear_codes.specs.Itf14.{itf14_of};
-ghost use Rattle.zint_texts.specs.Steps.{Gives, answered};
-ghost use Rattle.zint_draw.specs.symbologies.Itf14.{draws14, head14};
+ghost use Rattle.zint_texts.specs.Steps.{MayAnswer, answered};
+ghost use Rattle.zint_draw.specs.symbologies.Itf14.{draws14};
 ghost use Rattle.zint_draw.specs.symbologies.Linear.{linear_fault};
 
 use crate::symbologies::Symbol;
-use crate::symbologies::linear::{linear_fault, linear_head};
-use bar_base::{Linear, NoMemory};
+use crate::symbologies::linear::linear_fault;
+use bar_base::Linear;
 use linear_codes::{ITF14_MOST_DIGITS, itf14};
 use std::alloc::Global;
 use zint_texts::Fault;
@@ -16,26 +16,19 @@ use zint_words::Symbology;
 /// The symbol of data.
 #[tactic(auto, using(zint_texts::proofs::Steps::stepping), unfolding(crate::specs::symbologies::Itf14::draws14))]
 pub fn draw(alloc: Global, bytes: &[u8]) -> Result<Symbol, Fault>
-    ensures { Gives (λ symbol. symbol) result (draws14 bytes.now) }
+    ensures { MayAnswer (λ symbol. symbol) result (draws14 bytes.now) }
 {
     let symbol = checked_symbol(alloc, bytes)?;
-    Ok(Symbol::Itf14(symbol))
+    Ok(Symbol::Linear(Symbology::Itf14, symbol))
 }
 
 /// The symbol of data, and its check values.
 #[tactic(auto, using(crate::proofs::LinearFaults::linear_answered))]
 fn checked_symbol(alloc: Global, bytes: &[u8]) -> Result<Linear, Fault>
-    ensures { Gives (λ symbol. symbol) result (answered (linear_fault ITF14_MOST_DIGITS) (itf14_of bytes.now)) }
+    ensures { MayAnswer (λ symbol. symbol) result (answered (linear_fault ITF14_MOST_DIGITS) (itf14_of bytes.now)) }
 {
     match itf14(alloc, bytes) {
         Ok(symbol) => Ok(symbol),
         Err(fault) => Err(linear_fault(ITF14_MOST_DIGITS, fault)),
     }
-}
-
-/// The lines of the report before the grid.
-pub fn head(alloc: Global, symbol: &Linear) -> Result<Vec<u8>, NoMemory>
-    ensures { IfOk result (λ head. head.items ≡ head14 symbol.now) }
-{
-    linear_head(alloc, Symbology::Itf14, symbol)
 }

@@ -1,8 +1,8 @@
-//! What the linear symbols and the four-state symbol share: what their faults are here, and the lines of their reports.
-ghost use Rattle.std.specs.Prelude.{◌≡◌, ◌++◌, IfOk, OnOk};
-ghost use Rattle.zint_draw.specs.symbologies.Linear.{check_line, linear_fault, linear_head};
+//! What the linear symbols and the four-state symbol share: what their faults are here, the lines of their reports, the height of a row.
+ghost use Rattle.std.specs.Prelude.{◌≡◌, ◌≤◌, ◌++◌, IfOk, OnOk};
+ghost use Rattle.zint_draw.specs.symbologies.Linear.{check_line, linear_fault, linear_head, row_of_height};
 
-use bar_base::{Linear, LinearFault, NoMemory};
+use bar_base::{Grid, Linear, LinearFault, NoMemory};
 use std::alloc::Global;
 use zint_texts::{Fault, Kind, Refusal, Unit, put_number, put_numbers, put_text};
 use zint_words::Symbology;
@@ -58,4 +58,16 @@ fn put_check_line(text: &mut Vec<u8>, checks: &[u8]) -> Result<(), NoMemory>
         }
         None => Ok(()),
     }
+}
+
+/// The modules of a linear symbol, whose one row has this height, 1 to 200 modules.
+pub fn row_of_height(grid: Grid, height: u32) -> Grid
+    requires positive { 1 ≤ height }
+    requires bounded { height ≤ 200 }
+    ensures { result ≡ row_of_height height grid }
+{
+    let mut grid = grid;
+    prove!(grid.rows() > 0);
+    grid.set_height(0, height);
+    grid
 }

@@ -1,7 +1,7 @@
 //! The four-state symbol of the Royal Mail (RM4SCC).
 ghost use Rattle.std.specs.Prelude.{◌≡◌, IfOk};
 ghost use Rattle.four_state.specs.FourState.{rm4scc_of};
-ghost use Rattle.zint_texts.specs.Steps.{Gives, answered};
+ghost use Rattle.zint_texts.specs.Steps.{MayAnswer, answered};
 ghost use Rattle.zint_draw.specs.symbologies.FourState.{draws_four_state, head_four_state};
 ghost use Rattle.zint_draw.specs.symbologies.Linear.{linear_fault};
 
@@ -16,16 +16,16 @@ use zint_words::Symbology;
 /// The symbol of data.
 #[tactic(auto, using(zint_texts::proofs::Steps::stepping), unfolding(crate::specs::symbologies::FourState::draws_four_state))]
 pub fn draw(alloc: Global, bytes: &[u8]) -> Result<Symbol, Fault>
-    ensures { Gives (λ symbol. symbol) result (draws_four_state bytes.now) }
+    ensures { MayAnswer (λ symbol. symbol) result (draws_four_state bytes.now) }
 {
     let symbol = checked_symbol(alloc, bytes)?;
-    Ok(Symbol::Rm4scc(symbol))
+    Ok(Symbol::FourState(symbol))
 }
 
 /// The symbol of data, and its check values.
 #[tactic(auto, using(crate::proofs::LinearFaults::linear_answered))]
 fn checked_symbol(alloc: Global, bytes: &[u8]) -> Result<Linear, Fault>
-    ensures { Gives (λ symbol. symbol) result (answered (linear_fault RM4SCC_MOST_BYTES) (rm4scc_of bytes.now)) }
+    ensures { MayAnswer (λ symbol. symbol) result (answered (linear_fault RM4SCC_MOST_BYTES) (rm4scc_of bytes.now)) }
 {
     match rm4scc(alloc, bytes) {
         Ok(symbol) => Ok(symbol),

@@ -3,8 +3,8 @@ ghost use Rattle.std.specs.Prelude.{◌≡◌, ◌≤◌, ◌<◌, true, IfOk, l
 ghost use Rattle.std.specs.Char.{is_ascii_digit};
 ghost use Rattle.std.specs.List.{list_all};
 ghost use Rattle.std.specs.Str.Parse.{digits_value};
-ghost use Rattle.zint_texts.specs.Steps.{Gives, only};
-ghost use Rattle.zint_draw.specs.symbologies.Rune.{draws, draws_value, head_of, is_short_number, rune_number, rune_value};
+ghost use Rattle.zint_texts.specs.Steps.{MayAnswer, only};
+ghost use Rattle.zint_draw.specs.symbologies.Rune.{draws_rune, draws_value, is_short_number, rune_head, rune_number, rune_value};
 
 use crate::symbologies::Symbol;
 use aztec_layout::{rune, rune_words};
@@ -22,9 +22,9 @@ pub struct RuneSymbol {
 }
 
 /// The rune of data.
-#[tactic(auto, using(zint_texts::proofs::Steps::stepping), unfolding(crate::specs::symbologies::Rune::draws))]
+#[tactic(auto, using(zint_texts::proofs::Steps::stepping), unfolding(crate::specs::symbologies::Rune::draws_rune))]
 pub fn draw(alloc: Global, bytes: &[u8]) -> Result<Symbol, Fault>
-    ensures { Gives (λ symbol. symbol) result (draws bytes.now) }
+    ensures { MayAnswer (λ symbol. symbol) result (draws_rune bytes.now) }
 {
     let value = rune_value(bytes)?;
     draw_value(alloc, value)
@@ -32,7 +32,7 @@ pub fn draw(alloc: Global, bytes: &[u8]) -> Result<Symbol, Fault>
 
 /// The value of data.
 fn rune_value(bytes: &[u8]) -> Result<u8, Fault>
-    ensures { Gives (λ value. value) result (only (rune_value bytes.now)) }
+    ensures { MayAnswer (λ value. value) result (only (rune_value bytes.now)) }
 {
     match rune_number(bytes) {
         Some(value) => Ok(value),
@@ -82,7 +82,7 @@ fn digits_number(digits: &[u8]) -> u32
 
 /// The rune of a value.
 fn draw_value(alloc: Global, value: u8) -> Result<Symbol, Fault>
-    ensures { Gives (λ symbol. symbol) result (draws_value value) }
+    ensures { MayAnswer (λ symbol. symbol) result (draws_value value) }
 {
     let words = rune_words(value);
     let grid = rune(alloc, value)?;
@@ -91,7 +91,7 @@ fn draw_value(alloc: Global, value: u8) -> Result<Symbol, Fault>
 
 /// The lines of the report before the grid: the words.
 pub fn head(alloc: Global, symbol: &RuneSymbol) -> Result<Vec<u8>, NoMemory>
-    ensures { IfOk result (λ head. head.items ≡ head_of symbol.now) }
+    ensures { IfOk result (λ head. head.items ≡ rune_head symbol.now) }
 {
     let mut head = Vec::new(alloc);
     put_text(&mut head, b"symbol=128\nwords=")?;
