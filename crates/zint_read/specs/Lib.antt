@@ -1,0 +1,2 @@
+pub mod ReadReport
+pub mod ReadSteps
