@@ -1,0 +1,10 @@
+pub mod Texts
+pub mod Turning
+pub mod TurnedWords
+pub mod FirstBits
+pub mod Nearness
+pub mod DrawnNear
+pub mod Answered
+pub mod AlwaysFits
+pub mod NoRefusals
+pub mod OneDemonstration
