@@ -6,7 +6,9 @@ use Rattle.std.specs.List.{starts_with}
 use Rattle.bar_base.specs.Files.{FilesState, Reading, Lacks, Opens, left_of, beside_left, beside_reading, files_in, SameFiles}
 use Rattle.bar_base.specs.Limits.{most_bytes}
 use Rattle.bar_base.specs.Input.{limit_for, IsTooLong}
-use Rattle.zint_cli.specs.Content.{Content, known, missing, content_left, file_content, named_content, IsLong, IsContent, IsUntaken}
+use Rattle.zint_texts.specs.declared.detail.Unit.TheVariants.{Bytes}
+use Rattle.zint_texts.specs.declared.refusal.Refusal.TheVariants.{TooLong}
+use Rattle.zint_cli.specs.Content.{Content, known, missing, content_left, file_content, named_content, IsPastLimit, IsOverLimit, IsContent, IsUntaken}
 
 -- where both limits are one, it counts for every input
 pub limit_same : (limit : ℕ) (input : List ℕ) → limit_for limit limit input ≡ limit
@@ -17,13 +19,19 @@ pub content_taken : (left : Option (List ℕ)) (bytes : List ℕ) → IfSome lef
 content_taken None bytes whole = tt
 content_taken (Some input) bytes whole = whole
 
+-- bytes past the limit that counts for them
+past_limit : (picture_limit counts : ℕ) (bytes : List ℕ) → counts ≡ limit_for most_bytes picture_limit bytes → counts < length bytes
+    → IsPastLimit picture_limit bytes (TooLong counts Bytes)
+past_limit picture_limit counts bytes is longer =
+    let P : ℕ → Type 0 = λ limit. limit < length bytes in
+    (subst P is longer, ap (λ limit. TooLong limit Bytes) is)
+
 -- an input that was too long is a content that is too long
-pub content_long : (old new : Option (List ℕ)) (counts : ℕ) → IsTooLong most_bytes most_bytes old new counts → IsLong (content_left old)
-content_long None new counts long = tt
-content_long (Some input) new counts long =
-    let limit : counts ≡ most_bytes = long.whole.0 ∙ limit_same most_bytes input in
-    let P : ℕ → Type 0 = λ n. n < length input in
-    subst P limit long.whole.1
+pub content_long : (picture_limit : ℕ) (old new : Option (List ℕ)) (counts : ℕ) → IsTooLong most_bytes picture_limit old new counts
+    → IsOverLimit picture_limit (content_left old) (TooLong counts Bytes)
+content_long picture_limit None new counts long =
+    (long.prefix, past_limit picture_limit counts long.prefix long.counts_for_prefix long.longer)
+content_long picture_limit (Some input) new counts long = past_limit picture_limit counts input long.whole.0 long.whole.1
 
 pub ruleset reading = (limit_same, content_taken, content_long)
 

@@ -3,4 +3,7 @@ pub mod ContentLemmas
 pub mod FileLemmas
 pub mod Headline
 pub mod Headline128
+pub mod OneAnswer
+pub mod ReadingBack
+pub mod ReadingLemmas
 pub mod Serving

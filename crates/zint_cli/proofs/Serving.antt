@@ -8,16 +8,16 @@ use Rattle.zint_texts.specs.Steps.{Refuses}
 use Rattle.zint_texts.specs.declared.fault.Fault.{Fault}
 use Rattle.zint_texts.specs.declared.fault.Fault.TheVariants.{NoMemory, Unread, Unwritten, Refused}
 use Rattle.zint_texts.specs.declared.refusal.Refusal.{Refusal}
-use Rattle.zint_texts.specs.declared.refusal.Refusal.TheVariants.{Usage, TooLong, BadData, BadCheck, BadOption, NoFit}
+use Rattle.zint_texts.specs.declared.refusal.Refusal.TheVariants.{Usage, TooLong, BadData, BadSegment, BadCheck, BadOption, NoFit, BadImage, NoFinder, BadMode, TooDamaged, BadWord, BadSpelling}
 use Rattle.zint_words.specs.Outcome.{Outcome, settings}
 use Rattle.zint_words.specs.Settings.{Request}
-use Rattle.zint_cli.specs.Call.{CallBefore, before_of, asked, called, origin_of, responds, IsUnanswered}
+use Rattle.zint_cli.specs.Call.{CallBefore, before_of, asked, called, request_origin, responds, IsUnanswered}
 use Rattle.zint_cli.specs.Content.{content_of, ReadFaulted}
 use Rattle.zint_cli.specs.Ending.{EndsWithLine, HasStatus, MayEnd, ReadFails}
 
 -- the answer for a request is that of a call whose words make it
 pub called_settings : (request : Request) (left : Option (List ℕ)) (files : Option FilesState) (answer : Result (List ℕ) Refusal)
-    → responds request (content_of (origin_of request) left files) answer → called (before_of (settings request) left files) answer
+    → responds request (content_of (request_origin request) left files) answer → called (before_of (settings request) left files) answer
 unfolding called
 called_settings request left files (Ok text) responded = (request, refl, responded)
 called_settings request left files (Err refusal) responded = inr (request, refl, responded)
@@ -27,22 +27,36 @@ refusal_not_ten : (refusal : Refusal) → refusal_status refusal ≡ 10 → ⊥
 refusal_not_ten Usage ten = cc
 refusal_not_ten (TooLong limit unit) ten = cc
 refusal_not_ten (BadData kind place) ten = cc
+refusal_not_ten (BadSegment kind place segment) ten = cc
 refusal_not_ten (BadCheck given place wanted) ten = cc
 refusal_not_ten (BadOption text) ten = cc
 refusal_not_ten (NoFit misfit) ten = cc
+refusal_not_ten (BadImage fault) ten = cc
+refusal_not_ten (NoFinder x y) ten = cc
+refusal_not_ten (BadMode words) ten = cc
+refusal_not_ten (TooDamaged codewords check) ten = cc
+refusal_not_ten (BadWord place) ten = cc
+refusal_not_ten (BadSpelling place) ten = cc
 
 -- no refusal has the status of an output that was not written
 refusal_not_twelve : (refusal : Refusal) → refusal_status refusal ≡ 12 → ⊥
 refusal_not_twelve Usage twelve = cc
 refusal_not_twelve (TooLong limit unit) twelve = cc
 refusal_not_twelve (BadData kind place) twelve = cc
+refusal_not_twelve (BadSegment kind place segment) twelve = cc
 refusal_not_twelve (BadCheck given place wanted) twelve = cc
 refusal_not_twelve (BadOption text) twelve = cc
 refusal_not_twelve (NoFit misfit) twelve = cc
+refusal_not_twelve (BadImage fault) twelve = cc
+refusal_not_twelve (NoFinder x y) twelve = cc
+refusal_not_twelve (BadMode words) twelve = cc
+refusal_not_twelve (TooDamaged codewords check) twelve = cc
+refusal_not_twelve (BadWord place) twelve = cc
+refusal_not_twelve (BadSpelling place) twelve = cc
 
 -- why the input was not read
 pub reading_unanswered : (request : Request) (left : Option (List ℕ)) (files : Option FilesState) (input_faulted files_faulted : Type 0) (f : Fault)
-    → IsUnanswered request (content_of (origin_of request) left files) (ReadFaulted (origin_of request) input_faulted files_faulted) f
+    → IsUnanswered request (content_of (request_origin request) left files) (ReadFaulted (request_origin request) input_faulted files_faulted) f
     → status_of f ≡ 10 → ReadFails (before_of (settings request) left files) input_faulted files_faulted
 reading_unanswered request left files a b NoMemory why is = cc
 reading_unanswered request left files a b Unread why is = why
@@ -51,7 +65,7 @@ reading_unanswered request left files a b (Refused refusal) why is = absurd (ref
 
 -- a fault that leaves a request unanswered is none of writing
 pub not_twelve_unanswered : (request : Request) (left : Option (List ℕ)) (files : Option FilesState) (faulted : Type 0) (f : Fault)
-    → IsUnanswered request (content_of (origin_of request) left files) faulted f → status_of f ≡ 12 → ⊥
+    → IsUnanswered request (content_of (request_origin request) left files) faulted f → status_of f ≡ 12 → ⊥
 not_twelve_unanswered request left files faulted NoMemory why is = cc
 not_twelve_unanswered request left files faulted Unread why is = cc
 not_twelve_unanswered request left files faulted Unwritten why is = why
@@ -73,7 +87,7 @@ not_ten_words outcome (Refused refusal) refused is = refusal_not_ten refusal is
 
 -- a call may end with a fault that leaves its request unanswered
 pub may_unanswered : (request : Request) (left : Option (List ℕ)) (files : Option FilesState) (faulted : Type 0) (f : Fault)
-    → IsUnanswered request (content_of (origin_of request) left files) faulted f → MayEnd (before_of (settings request) left files) f
+    → IsUnanswered request (content_of (request_origin request) left files) faulted f → MayEnd (before_of (settings request) left files) f
 may_unanswered request left files faulted NoMemory why = tt
 may_unanswered request left files faulted Unread why = tt
 may_unanswered request left files faulted Unwritten why = absurd why

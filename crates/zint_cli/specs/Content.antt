@@ -3,6 +3,7 @@ use Rattle.std.specs.Prelude.{◌≡◌, ◌<◌, ◌≤◌, ◌⊎◌, ℕ, Boo
 use Rattle.std.specs.FinMap.{get}
 use Rattle.std.specs.Str.{bytes_eq}
 use Rattle.bar_base.specs.Files.{FilesState}
+use Rattle.bar_base.specs.Input.{limit_for}
 use Rattle.bar_base.specs.Limits.{most_bytes}
 use Rattle.zint_texts.specs.Steps.{Step}
 use Rattle.zint_texts.specs.declared.detail.Unit.TheVariants.{Bytes}
@@ -53,23 +54,29 @@ IsContent (known content) bytes = bytes ≡ content
 IsContent missing bytes = ⊥
 IsContent unknown bytes = Unit {0}
 
--- the content is longer than the limit of the data, as far as it is known
-abbrev pub IsLong : Content → Type 0
-IsLong (known content) = most_bytes < length content
-IsLong missing = ⊥
-IsLong unknown = Unit {0}
+-- Bytes are more than the limit that counts for them, which the refusal names. Where they begin with `BM` that is the limit of pictures,
+-- else that of data and of grids.
+abbrev pub IsPastLimit : (picture_limit : ℕ) → (bytes : List ℕ) → Refusal → Type 0
+IsPastLimit picture_limit bytes refusal =
+    let limit = limit_for most_bytes picture_limit bytes in (limit < length bytes) × (refusal ≡ TooLong limit Bytes)
+
+-- the content has too many bytes, as far as it is known: else the bytes are that were read of it
+abbrev pub IsOverLimit : (picture_limit : ℕ) → Content → Refusal → Type 0
+IsOverLimit picture_limit (known content) refusal = IsPastLimit picture_limit content refusal
+IsOverLimit picture_limit missing refusal = ⊥
+IsOverLimit picture_limit unknown refusal = (bytes : List ℕ) × IsPastLimit picture_limit bytes refusal
 
 -- The bytes of a content, as far as it is known; or that there are too many of them.
-abbrev pub raw_of : Content → Step (List ℕ)
-raw_of content (Ok raw) = IsContent content raw × (length raw ≤ most_bytes)
-raw_of content (Err refusal) = IsLong content × (refusal ≡ TooLong most_bytes Bytes)
+abbrev pub raw_of : (picture_limit : ℕ) → Content → Step (List ℕ)
+raw_of picture_limit content (Ok raw) = IsContent content raw × (length raw ≤ limit_for most_bytes picture_limit raw)
+raw_of picture_limit content (Err refusal) = IsOverLimit picture_limit content refusal
 
 -- Why a content was not taken: it is missing, or a fault was counted while it was read; or it is refused.
-abbrev pub IsUntaken : Content → (faulted : Type 0) → Fault → Type 0
-IsUntaken content faulted NoMemory = Unit {0}
-IsUntaken content faulted Unread = (content ≡ missing) ⊎ faulted
-IsUntaken content faulted Unwritten = ⊥
-IsUntaken content faulted (Refused refusal) = raw_of content (Err refusal)
+abbrev pub IsUntaken : (picture_limit : ℕ) → Content → (faulted : Type 0) → Fault → Type 0
+IsUntaken picture_limit content faulted NoMemory = Unit {0}
+IsUntaken picture_limit content faulted Unread = (content ≡ missing) ⊎ faulted
+IsUntaken picture_limit content faulted Unwritten = ⊥
+IsUntaken picture_limit content faulted (Refused refusal) = raw_of picture_limit content (Err refusal)
 
 -- a fault was counted where the origin was read: standard input counts its own, and the files count those in reading
 abbrev pub ReadFaulted : MessageOrigin → (input_faulted files_faulted : Type 0) → Type 0

@@ -1,6 +1,6 @@
 //! What the words ask for.
 ghost use Rattle.std.specs.Prelude.{◌≡◌, map, option_map, string_bytes};
-ghost use Rattle.zint_texts.specs.Steps.{Gives};
+ghost use Rattle.zint_texts.specs.Steps.{MayAnswer};
 ghost use Rattle.zint_words.specs.Outcome.{outcome_of};
 ghost use Rattle.zint_words.specs.Settings.{request_in};
 ghost use Rattle.zint_cli.specs.Call.{asked, output_of};
@@ -11,7 +11,7 @@ use zint_words::{Refusal as WordsRefusal, Settings, settings_of};
 
 /// The settings that the words ask for, or why there are none.
 pub fn asked<'a>(alloc: Global, words: &'a [String]) -> Result<Settings<'a>, Fault>
-    ensures { Gives request_in result (asked (outcome_of (map string_bytes words.entry.now))) }
+    ensures { MayAnswer request_in result (asked (outcome_of (map string_bytes words.entry.now))) }
 {
     match settings_of(alloc, words) {
         Ok(settings) => Ok(settings),
@@ -27,5 +27,7 @@ pub fn output_of<'a>(settings: &Settings<'a>) -> Option<&'a str>
 {
     match settings {
         Settings::Drawing(drawing) => drawing.output,
+        Settings::Reading(reading) => reading.output,
+        Settings::Demonstration(demonstration) => demonstration.output,
     }
 }

@@ -7,11 +7,13 @@ ghost use Rattle.bar_base.specs.Files.{left_of};
 ghost use Rattle.zint_texts.specs.declared.fault.Fault.TheVariants.{Unwritten};
 ghost use Rattle.zint_words.specs.Outcome.{outcome_of, settings};
 ghost use Rattle.zint_words.specs.Settings.{request_in};
-ghost use Rattle.zint_cli.specs.Call.{before, before_of, origin_of, output_of};
+ghost use Rattle.zint_cli.specs.Call.{before, before_of, request_origin, output_of};
 ghost use Rattle.zint_cli.specs.Content.{HasEnded, names_standard};
+ghost use Rattle.zint_cli.specs.Demonstrated.{Demonstrates, WritesNear};
 ghost use Rattle.zint_cli.specs.Effects.{HoldsText, HoldsTextPart, WriteFaulted, WritesLine, after};
-ghost use Rattle.zint_cli.specs.Ending.{EndsWithLine, ForRequest, HasStatus, OnRequest, ReadFails, WritesText};
+ghost use Rattle.zint_cli.specs.Ending.{EndsComplete, EndsWithLine, ForRequest, HasKnownContent, HasStatus, OnRequest, ReadFails, RefusesExactly, WritesEach, WritesText};
 ghost use Rattle.zint_cli.specs.Headline.{DrawsFewestValues, DrawsSo, HasSmallestSize, IsShortest};
+ghost use Rattle.zint_cli.specs.ReadingBack.{ReadsBackDrawings};
 ghost use Rattle.bar_base.specs.Files.{SameFiles};
 ghost use Rattle.zint_cli.specs.OutputText.{output_text};
 
@@ -31,7 +33,7 @@ const OK: u8 = 0;
 /// Writes the output where it is to be, and gives the status; where it was not written whole, the line of that is written.
 fn finish<F: Files, O: Sink, E: Sink>(
     name: Option<&str>,
-    output: &Output,
+    output: Output,
     files: &mut F,
     out: &mut O,
     err: &mut E,
@@ -39,10 +41,10 @@ fn finish<F: Files, O: Sink, E: Sink>(
     ensures status { (result ≡ 0) ⊎ (result ≡ 12) }
     ensures written { result ≡ 0 → HoldsText
         (after (O.held out.old) (O.held out.new) (F.state files.old) (F.state files.new))
-        (option_map (λ name. name.now) name.entry) (output_text output.now) }
+        (option_map (λ name. name.now) name.entry) (output_text output) }
     ensures part { result ≡ 12 → HoldsTextPart
         (after (O.held out.old) (O.held out.new) (F.state files.old) (F.state files.new))
-        (option_map (λ name. name.now) name.entry) (output_text output.now) }
+        (option_map (λ name. name.now) name.entry) (output_text output) }
     ensures cause { result ≡ 12 → WriteFaulted (option_map (λ name. name.now) name.entry)
         (Rose (O.faults out.old) (O.faults out.new)) (Rose (F.writing_faults files.old) (F.writing_faults files.new)) }
     ensures out_kept { IsSome name.entry → out.new ≡ out.old }
@@ -78,14 +80,16 @@ fn serve<I: Source, F: Files, O: Sink, E: Sink>(
     ensures written { result ≡ 0 → WritesText
         (before_of (settings (request_in asking.now)) (I.left input.old) (F.state files.old))
         (HoldsText (after (O.held out.old) (O.held out.new) (F.state files.old) (F.state files.new))) }
+    ensures demonstration { result ≡ 0 → WritesNear (request_in asking.now)
+        (HoldsText (after (O.held out.old) (O.held out.new) (F.state files.old) (F.state files.new))) }
     ensures part { result ≡ 12 → WritesText
         (before_of (settings (request_in asking.now)) (I.left input.old) (F.state files.old))
         (HoldsTextPart (after (O.held out.old) (O.held out.new) (F.state files.old) (F.state files.new))) }
     ensures silent { result ≢ 0 → result ≢ 12 → out.new ≡ out.old }
     ensures files_kept { result ≢ 0 → result ≢ 12 → SameFiles (F.state files.old) (F.state files.new) }
     ensures out_kept { IsSome (output_of (request_in asking.now)) → out.new ≡ out.old }
-    ensures input_kept { names_standard (origin_of (request_in asking.now)) ≡ false → input.new ≡ input.old }
-    ensures ended { (result ≡ 0) ⊎ (result ≡ 12) → HasEnded (origin_of (request_in asking.now))
+    ensures input_kept { names_standard (request_origin (request_in asking.now)) ≡ false → input.new ≡ input.old }
+    ensures ended { (result ≡ 0) ⊎ (result ≡ 12) → HasEnded (request_origin (request_in asking.now))
         (IsAtEnd (I.left input.new)) (IsAtEnd (left_of (F.state files.new))) }
     ensures quiet { result ≡ 0 → err.new ≡ err.old }
     ensures line { result ≢ 0 → EndsWithLine
@@ -93,7 +97,7 @@ fn serve<I: Source, F: Files, O: Sink, E: Sink>(
         result (WritesLine (E.held err.old) (E.held err.new) (E.faults err.old) (E.faults err.new)) }
 {
     match answer(alloc, asking, input, files) {
-        Ok(output) => finish(output_of(asking), &output, files, out, err),
+        Ok(output) => finish(output_of(asking), output, files, out, err),
         Err(fault) => tell(err, &fault),
     }
 }
@@ -125,6 +129,25 @@ pub fn run<I: Source, F: Files, O: Sink, E: Sink>(
     ensures part { result ≡ 12 → WritesText (before words.now (I.left input.old) (F.state files.old))
         (HoldsTextPart (after (O.held out.old) (O.held out.new) (F.state files.old) (F.state files.new))) }
 
+    // Where the content is known the answer is the only one: with 0 each text that answers the call is the one that was written; a call
+    // that has a text ends with 0 or for want of memory, unless its reading or its writing failed; and one that has a refusal ends with
+    // the status of that refusal or for want of memory, unless its reading failed.
+    ensures exactly { result ≡ 0 → HasKnownContent (before words.now (I.left input.old) (F.state files.old))
+        → WritesEach (before words.now (I.left input.old) (F.state files.old))
+        (HoldsText (after (O.held out.old) (O.held out.new) (F.state files.old) (F.state files.new))) }
+    ensures complete { EndsComplete (before words.now (I.left input.old) (F.state files.old)) result
+        (ReadFails (before words.now (I.left input.old) (F.state files.old))
+        (Rose (I.faults input.old) (I.faults input.new))
+        (Rose (F.reading_faults files.old) (F.reading_faults files.new)))
+        (ForRequest (outcome_of (map string_bytes words.now)) (λ request. WriteFaulted (output_of request)
+        (Rose (O.faults out.old) (O.faults out.new))
+        (Rose (F.writing_faults files.old) (F.writing_faults files.new)))) }
+
+    ensures refuses { RefusesExactly (before words.now (I.left input.old) (F.state files.old)) result
+        (ReadFails (before words.now (I.left input.old) (F.state files.old))
+        (Rose (I.faults input.old) (I.faults input.new))
+        (Rose (F.reading_faults files.old) (F.reading_faults files.new))) }
+
     // The headline: for every accepted Aztec message no spelling has fewer bits than the one drawn, whose number the report prints, and
     // its size is the smallest allowed that holds it at the share.
     ensures shortest { result ≡ 0 → DrawsSo (before words.now (I.left input.old) (F.state files.old))
@@ -136,6 +159,15 @@ pub fn run<I: Source, F: Files, O: Sink, E: Sink>(
     ensures fewest { result ≡ 0 → DrawsFewestValues (before words.now (I.left input.old) (F.state files.old))
         (HoldsText (after (O.held out.old) (O.held out.new) (F.state files.old) (F.state files.new))) }
 
+    // Whatever Aztec symbol was drawn, by whatever options: a picture near it, given as the text of its grid or as a BMP, reads as exactly
+    // the message of its data.
+    ensures read_back { ReadsBackDrawings (before words.now (I.left input.old) (F.state files.old))
+        (HoldsText (after (O.held out.old) (O.held out.new) (F.state files.old) (F.state files.new))) result }
+
+    // The demonstration: the grid that was written is near the drawing of the text of its number.
+    ensures demonstration { result ≡ 0 → Demonstrates (before words.now (I.left input.old) (F.state files.old))
+        (HoldsText (after (O.held out.old) (O.held out.new) (F.state files.old) (F.state files.new))) }
+
     // Every other status leaves output and files; a named file leaves standard output.
     ensures silent { result ≢ 0 → result ≢ 12 → out.new ≡ out.old }
     ensures files_kept { result ≢ 0 → result ≢ 12 → SameFiles (F.state files.old) (F.state files.new) }
@@ -144,9 +176,9 @@ pub fn run<I: Source, F: Files, O: Sink, E: Sink>(
 
     // The input is untouched where it is not named; what is named was read to its end.
     ensures input_kept { OnRequest (outcome_of (map string_bytes words.now))
-        (λ request. names_standard (origin_of request) ≡ false) → input.new ≡ input.old }
+        (λ request. names_standard (request_origin request) ≡ false) → input.new ≡ input.old }
     ensures ended { (result ≡ 0) ⊎ (result ≡ 12) → ForRequest (outcome_of (map string_bytes words.now)) (λ request.
-        HasEnded (origin_of request) (IsAtEnd (I.left input.new)) (IsAtEnd (left_of (F.state files.new)))) }
+        HasEnded (request_origin request) (IsAtEnd (I.left input.new)) (IsAtEnd (left_of (F.state files.new)))) }
 
     // With 0 standard error is untouched; else it grew by exactly the fault line, or by a prefix where its own count rose.
     ensures quiet { result ≡ 0 → err.new ≡ err.old }

@@ -13,11 +13,11 @@ use crate::output::{Output, write_output};
 use bar_base::{Failed, FileSink, Files, Sink};
 
 /// Writes the output to the file that is being written.
-fn write_open<F: Files>(files: &mut F, output: &Output) -> Result<(), Failed>
+fn write_open<F: Files>(files: &mut F, output: Output) -> Result<(), Failed>
     ensures whole { OnOk result
-        (Appends (held_of (F.state files.old)) (held_of (F.state files.new)) (output_text output.now)) }
+        (Appends (held_of (F.state files.old)) (held_of (F.state files.new)) (output_text output)) }
     ensures part { OnErr result
-        (AppendsPrefix (held_of (F.state files.old)) (held_of (F.state files.new)) (output_text output.now)) }
+        (AppendsPrefix (held_of (F.state files.old)) (held_of (F.state files.new)) (output_text output)) }
     ensures beside { option_map beside_held (F.state files.new) ≡ option_map beside_held (F.state files.old) }
     ensures cause { HasCause (F.writing_faults files.old) (F.writing_faults files.new) result }
     ensures reading_count { F.reading_faults files.new ≡ F.reading_faults files.old }
@@ -30,9 +30,9 @@ fn write_open<F: Files>(files: &mut F, output: &Output) -> Result<(), Failed>
 /// Makes the file of this name, or empties it, and writes the output to it. `Failed` leaves the files as they were or a prefix in this
 /// one alone, and is answered only where a fault was counted.
 #[tactic(auto, using(bar_base::proofs::NamedFile::named_file))]
-pub fn write_file<F: Files>(files: &mut F, name: &str, output: &Output) -> Result<(), Failed>
-    ensures whole { OnOk result (HoldsFile name.now (output_text output.now) (F.state files.old) (F.state files.new)) }
-    ensures part { OnErr result (HoldsPart name.now (output_text output.now) (F.state files.old) (F.state files.new)) }
+pub fn write_file<F: Files>(files: &mut F, name: &str, output: Output) -> Result<(), Failed>
+    ensures whole { OnOk result (HoldsFile name.now (output_text output) (F.state files.old) (F.state files.new)) }
+    ensures part { OnErr result (HoldsPart name.now (output_text output) (F.state files.old) (F.state files.new)) }
     ensures cause { HasCause (F.writing_faults files.old) (F.writing_faults files.new) result }
     ensures reading_count { F.reading_faults files.new ≡ F.reading_faults files.old }
     ensures ended { IsAtEnd (left_of (F.state files.old)) → IsAtEnd (left_of (F.state files.new)) }
@@ -46,16 +46,16 @@ pub fn write_file<F: Files>(files: &mut F, name: &str, output: &Output) -> Resul
 /// only where a fault was counted.
 pub fn emit<F: Files, O: Sink>(
     name: Option<&str>,
-    output: &Output,
+    output: Output,
     files: &mut F,
     out: &mut O,
 ) -> Result<(), Failed>
     ensures whole { OnOk result
         (HoldsText (after (O.held out.old) (O.held out.new) (F.state files.old) (F.state files.new))
-        (option_map (λ name. name.now) name.entry) (output_text output.now)) }
+        (option_map (λ name. name.now) name.entry) (output_text output)) }
     ensures part { OnErr result
         (HoldsTextPart (after (O.held out.old) (O.held out.new) (F.state files.old) (F.state files.new))
-        (option_map (λ name. name.now) name.entry) (output_text output.now)) }
+        (option_map (λ name. name.now) name.entry) (output_text output)) }
     ensures cause { OnErr result (WriteFaulted (option_map (λ name. name.now) name.entry)
         (Rose (O.faults out.old) (O.faults out.new)) (Rose (F.writing_faults files.old) (F.writing_faults files.new))) }
     ensures out_kept { IsSome name.entry → out.new ≡ out.old }

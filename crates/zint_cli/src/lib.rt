@@ -7,6 +7,7 @@ mod call;
 mod content;
 mod emit;
 mod output;
+mod painted;
 mod tell;
 
 pub use call::run;

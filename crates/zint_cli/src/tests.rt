@@ -62,19 +62,6 @@ fn call(alloc: Global, words: &[&str], input: &[u8], fails: &Fails<'_>) -> Resul
     })
 }
 
-#[test]
-fn draws_and_refuses_runes(rt: HostRuntime) -> Result<(), Fail> {
-    let left = call(rt.alloc(), &["-b", "128", "-d", "0"], b"", &NONE)?;
-    assert_eq!(rt; left.status, 0);
-    assert_eq!(rt; left.out.bytes(), RUNE_0.as_bytes());
-    assert!(rt; left.err.bytes().is_empty());
-    let left = call(rt.alloc(), &["-b", "128", "-d", "256"], b"", &NONE)?;
-    assert_eq!(rt; left.status, 6);
-    assert!(rt; left.out.bytes().is_empty());
-    assert_eq!(rt; left.err.bytes(), b"error 6: number at 0\n".as_slice());
-    Ok(())
-}
-
 /// The report of `Code 2D!`: the lines before the grid in one write, and the grid in another.
 const HEAD: &str =
     "symbol=92\nbits=56\nspelling=00100111001000000101001101111000010100111100101000000110\nsize=compact 1\nside=15\ncodewords=10+7\ngrid:\n";
@@ -99,15 +86,6 @@ fn each_failing_write_leaves_a_prefix(rt: HostRuntime) -> Result<(), Fail> {
     assert!(rt; left.out.bytes().starts_with(HEAD.as_bytes()));
     assert!(rt; left.out.bytes().ends_with(GRID.as_bytes()));
     assert_eq!(rt; left.out.bytes().len(), HEAD.len() + GRID.len());
-    Ok(())
-}
-
-#[test]
-fn a_failing_line_leaves_the_status(rt: HostRuntime) -> Result<(), Fail> {
-    let fails = Fails { err: &[1], ..NONE };
-    let left = call(rt.alloc(), &["-b", "128", "-d", "256"], b"", &fails)?;
-    assert_eq!(rt; left.status, 6);
-    assert!(rt; left.err.bytes().is_empty());
     Ok(())
 }
 
@@ -142,6 +120,8 @@ fn failing_files_keep_the_rest(rt: HostRuntime) -> Result<(), Fail> {
     )?;
     assert_eq!(rt; left.status, 12);
     assert!(rt; left.files.file("x").is_none());
+    assert_eq!(rt; left.err.bytes(), b"error 12: write\n".as_slice());
+    assert!(rt; left.out.bytes().is_empty());
     let left = call(
         rt.alloc(),
         &words,
@@ -154,5 +134,15 @@ fn failing_files_keep_the_rest(rt: HostRuntime) -> Result<(), Fail> {
     assert_eq!(rt; left.status, 12);
     let held = left.files.file("x").ok_or("no file x")?;
     assert!(rt; held.is_empty());
+    Ok(())
+}
+
+#[test]
+fn a_failing_line_leaves_the_status(rt: HostRuntime) -> Result<(), Fail> {
+    let fails = Fails { err: &[1], ..NONE };
+    let left = call(rt.alloc(), &["-b", "92", "-d", ""], b"", &fails)?;
+    assert_eq!(rt; left.status, 6);
+    assert!(rt; left.out.bytes().is_empty());
+    assert!(rt; left.err.bytes().is_empty());
     Ok(())
 }
