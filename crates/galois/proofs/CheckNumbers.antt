@@ -1,11 +1,12 @@
 -- from check words over a field to those over the numbers of its elements, and back
-use Rattle.std.proofs.Common.{◌≡◌, ℕ, ◌+◌, ◌-◌, ◌*◌, ◌^◌, ◌<◌, ◌↔◌, Bool, true, List, [], ◌∷◌, ◌++◌, length, drop, map, get_or, bit_xor, refl, sym, ap, ◌∙◌, subst, arith, length-append, length-drop}
+use Rattle.std.proofs.Common.{◌≡◌, ℕ, ◌+◌, ◌-◌, ◌*◌, ◌^◌, ◌<◌, ◌≤◌, ◌↔◌, Bool, true, List, [], ◌∷◌, ◌++◌, length, drop, map, get_or, bit_xor, refl, sym, ap, ◌∙◌, subst, arith, length-append, length-drop}
 use Rattle.std.specs.Prelude.{All, ◌==◌, if◌then◌else◌}
 use Rattle.std.proofs.lemmas.Bool.Decides.{same_from_decides, nat_tests}
 use Rattle.std.proofs.lemmas.List.{map-append, length-map, take-append-drop}
 use Rattle.std.proofs.lemmas.List.Elements.{All-map, All-drop, All-head, All-tail}
 use Rattle.std.proofs.Math.Seq.{take-append_seam}
-use Rattle.galois.specs.Polynomials.{product_of, power_of}
+use Rattle.galois.specs.FieldLaws.{alpha_within, numbering_of, power_within, product_within, size_of, sum_within, zero_within}
+use Rattle.galois.specs.Polynomials.{IsPrimitive, product_of, power_of}
 use Rattle.galois.specs.CheckWord.{weighted_sum, check_sum, IsCheckWord, IsCheckOf, distance}
 use Rattle.galois.specs.CheckNumbers.{IsCheckWordIn, IsContinuation, apart}
 use Rattle.galois.specs.Field.{IsNumbering}
@@ -18,6 +19,22 @@ pub record HasNumbers {A : Type 0} (bits poly order : ℕ) (value : A → ℕ) (
   pub sum_is : (a b : A) → value (plus a b) ≡ bit_xor (value a) (value b)
   pub product_is : (a b : A) → value (times a b) ≡ product_of bits poly (value a) (value b)
   pub power_is : (k : ℕ) → value (power k) ≡ power_of bits poly 2 k
+
+-- The elements of the field of a primitive polynomial carry its operations to their numbers.
+pub field_numbers : {A : Type 0} {bits order poly : ℕ} (primitive : IsPrimitive bits order poly) (make : (k : ℕ) → k ≤ order → A) (number : A → ℕ)
+    (within : (a : A) → number a ≤ order) (back : (a : A) → make (number a) (within a) ≡ a) (forth : (k : ℕ) (kw : k ≤ order) → number (make k kw) ≡ k)
+    → HasNumbers bits poly order number (make 0 (zero_within primitive))
+    (λ a b. make (bit_xor (number a) (number b)) (sum_within primitive (number a) (number b) (within a) (within b)))
+    (λ a b. make (product_of bits poly (number a) (number b)) (product_within primitive (number a) (number b) (within a)))
+    (λ k. make (power_of bits poly 2 k) (power_within primitive 2 k (alpha_within primitive)))
+field_numbers {A} {bits} {order} {poly} primitive make number within back forth = record {
+  size = (size_of primitive).order_is;
+  numbering = numbering_of make number within back forth;
+  zero_is = forth 0 (zero_within primitive);
+  sum_is = λ a b. forth (bit_xor (number a) (number b)) (sum_within primitive (number a) (number b) (within a) (within b));
+  product_is = λ a b. forth (product_of bits poly (number a) (number b)) (product_within primitive (number a) (number b) (within a));
+  power_is = λ k. forth (power_of bits poly 2 k) (power_within primitive 2 k (alpha_within primitive));
+}
 
 module _ {A : Type 0} {bits poly order : ℕ} {value : A → ℕ} {nought : A} {plus times : A → A → A} {power : ℕ → A}
     (carries : HasNumbers bits poly order value nought plus times power) where

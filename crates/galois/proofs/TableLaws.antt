@@ -28,7 +28,7 @@ set_more list f place count v apart within is are k below = elim (cases_eq k cou
 
 module _ {A : Type 0} {nought unit : A} {plus times : A → A → A} {inverse : A → A} {power : ℕ → A} {order : ℕ} (laws : IsField nought unit plus times inverse power order)
     (value : A → ℕ) (numbering : IsNumbering value order) where
-  pub tables_none : (powers exponents : List ℕ) → length powers ≡ 8190 → length exponents ≡ 4096 → AreTables value power order 0 powers exponents
+  pub tables_none : (powers exponents : List ℕ) → 2 * order ≤ length powers → order < length exponents → AreTables value power order 0 powers exponents
   tables_none powers exponents long long' = record {
     powers_long = long;
     exponents_long = long';
@@ -38,22 +38,22 @@ module _ {A : Type 0} {nought unit : A} {plus times : A → A → A} {inverse : 
   }
 
   -- one power more
-  pub tables_more : (count number : ℕ) (powers exponents : List ℕ) → order < 4096 → count < order → number ≡ value (power count) → AreTables value power order count powers exponents
+  pub tables_more : (count number : ℕ) (powers exponents : List ℕ) → count < order → number ≡ value (power count) → AreTables value power order count powers exponents
       → AreTables value power order (count + 1) (set (set powers count number) (order + count) number) (set exponents number count)
-  tables_more count number powers exponents few below is are =
+  tables_more count number powers exponents below is are =
       let long : length (set powers count number) ≡ length powers = length-set powers count number in
       record {
-        powers_long = length-set _ _ _ ∙ long ∙ are.powers_long;
-        exponents_long = length-set _ _ _ ∙ are.exponents_long;
+        powers_long = omega (arith, long, length-set (set powers count number) (order + count) number, are.powers_long);
+        exponents_long = omega (arith, length-set exponents number count, are.exponents_long);
         power_is = λ k within.
             get_or-set_other (set powers count number) (order + count) k number 0 (λ e. omega arith)
-            ∙ set_more powers (λ i. value (power i)) (λ i. i) count number (λ i j e. e) (omega (arith, few, below, are.powers_long)) is are.power_is k within;
-        power_again = set_more (set powers count number) (λ i. value (power i)) (λ i. order + i) count number (λ i j e. omega arith) (omega (arith, few, below, long, are.powers_long)) is
+            ∙ set_more powers (λ i. value (power i)) (λ i. i) count number (λ i j e. e) (omega (arith, below, are.powers_long)) is are.power_is k within;
+        power_again = set_more (set powers count number) (λ i. value (power i)) (λ i. order + i) count number (λ i j e. omega arith) (omega (arith, below, long, are.powers_long)) is
             (λ k within. get_or-set_other powers count (order + k) number 0 (λ e. omega arith) ∙ are.power_again k within);
         exponent_is = λ k within. elim (cases_eq k count) [
           | inl at ↦
               ap (λ (i : ℕ). get_or (set exponents number count) (value (power i)) 0) at ∙ ap (λ (i : ℕ). get_or (set exponents number count) i 0) (sym is)
-              ∙ get_or-set_same exponents number count 0 (omega (arith, is, few, are.exponents_long, numbering.within (power count))) ∙ sym at
+              ∙ get_or-set_same exponents number count 0 (omega (arith, is, are.exponents_long, numbering.within (power count))) ∙ sym at
           | inr apart ↦
               get_or-set_other exponents number (value (power k)) count 0
               (λ e. apart (laws.powers_distinct k count (omega arith) below (numbering.same _ _ (e ∙ is)))) ∙ are.exponent_is k (omega arith)

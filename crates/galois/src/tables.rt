@@ -1,19 +1,19 @@
 //! The powers of alpha and their exponents, written down once, for products and quotients without multiplication.
 
-ghost use Rattle.std.specs.Prelude.{◌≡◌, ◌≢◌, ◌<◌, ◌≤◌, ◌*◌};
+ghost use Rattle.std.specs.Prelude.{◌≡◌, ◌≢◌, ◌<◌, ◌≤◌, ◌*◌, length};
 ghost use Rattle.galois.specs.Tables.{AreTables};
 
 use crate::Field;
 use std::marker::PhantomData;
 
-/// The powers of alpha of a field by their exponents, and the exponents of elements by their numbers, in 24,572 bytes
-/// without memory from an allocator. (ISO/IEC 24778, Reed-Solomon error correction.)
+/// The powers of alpha of a field by their exponents, and the exponents of elements by their numbers, in lists that are
+/// lent. (ISO/IEC 24778, Reed-Solomon error correction.)
 #[derive(Drop)]
-pub struct Tables<F: Field> {
-    powers: [u16; 8190],
-    exponents: [u16; 4096],
+pub struct Tables<'a, F: Field> {
+    powers: &'a [u16],
+    exponents: &'a [u16],
     of: PhantomData<F>,
-    ghost are: { AreTables F.value F.power F.ORDER F.ORDER powers exponents },
+    ghost are: { AreTables F.value F.power F.ORDER F.ORDER powers.now exponents.now },
 }
 
 /// The element of a number, which is at most `ORDER`.
@@ -29,20 +29,31 @@ pub fn element_of<F: Field>(number: u32) -> F
     }
 }
 
-impl<F: Field> Tables<F> {
-    /// The tables of the field.
-    pub fn new() -> Tables<F> {
-        let mut powers = [0; 8190];
-        let mut exponents = [0; 4096];
-        let alpha = F::alpha(1);
-        let mut power = F::one();
-        for exponent in 0..F::ORDER as usize {
-            let number = power.number() as u16;
-            powers[exponent] = number;
-            powers[F::ORDER as usize + exponent] = number;
-            exponents[number as usize] = exponent as u16;
-            power = power.mul(alpha);
-        }
+// Writes each power twice, and its exponent once.
+fn write_tables<F: Field>(powers: &mut [u16], exponents: &mut [u16])
+    requires powers { 2 * F.ORDER ≤ length powers.old }
+    requires exponents { F.ORDER < length exponents.old }
+    ensures { AreTables F.value F.power F.ORDER F.ORDER powers.new exponents.new }
+{
+    let alpha = F::alpha(1);
+    let mut power = F::one();
+    for exponent in 0..F::ORDER as usize {
+        let number = power.number() as u16;
+        powers[exponent] = number;
+        powers[F::ORDER as usize + exponent] = number;
+        exponents[number as usize] = exponent as u16;
+        power = power.mul(alpha);
+    }
+}
+
+impl<'a, F: Field> Tables<'a, F> {
+    /// The tables of the field, written into two lists: of at least twice `ORDER` powers, and of more than `ORDER`
+    /// exponents. What the lists held is lost.
+    pub fn new(powers: &'a mut [u16], exponents: &'a mut [u16]) -> Tables<'a, F>
+        requires powers { 2 * F.ORDER ≤ length powers.old }
+        requires exponents { F.ORDER < length exponents.old }
+    {
+        write_tables::<F>(powers, exponents);
         Tables {
             powers,
             exponents,

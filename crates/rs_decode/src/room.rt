@@ -15,7 +15,6 @@ use std::marker::Model;
 /// The memory that correction needs. As a value it is the length of the longest word and the most check elements.
 #[derive(Drop)]
 pub struct Room<F: Field> {
-    tables: Tables<F>,
     syndromes: Vec<F>,
     remainders: Remainders<F>,
     places: Vec<u32>,
@@ -40,7 +39,6 @@ impl<F: Field> Room<F> {
         ensures made { IfOk result (λ room. room ≡ record { longest = n; most = c }) }
     {
         Ok(Room {
-            tables: Tables::new(),
             syndromes: zeros(alloc, c)?,
             remainders: Remainders::new(alloc, c / 2)?,
             places: vec![in alloc; 0; n]?,
@@ -95,8 +93,11 @@ pub fn decode<F: Field>(room: &mut Room<F>, word: &mut [F], c: usize) -> Result<
     ensures beyond { OnErr result (IsBeyond F.nought F.plus F.times F.power F.eq c word.old word.new) }
     ensures room { room.new ≡ room.old }
 {
+    let mut powers = [0; 8190];
+    let mut numbers = [0; 4096];
+    let tables = Tables::new(&mut powers, &mut numbers);
     correct_within(
-        &room.tables,
+        &tables,
         &mut room.syndromes,
         &mut room.remainders,
         &mut room.places,

@@ -33,15 +33,49 @@ fn write_in<F: Field>(tables: &Tables<F>, front: &[F], check: &mut [F], room: &m
     }
 }
 
-// The same with a list of its own.
+// The same with lists of its own, over a field of at most 1024 elements.
+#[inline(never)]
+fn write_check_small<F: Field>(front: &[F], check: &mut [F])
+    requires small { F.ORDER < 1024 }
+    requires some { 0 < length check.old }
+    requires few { length check.old < F.ORDER }
+    requires zeros { check.old ≡ replicate (length check.old) F.nought }
+    ensures { Completes F.nought F.plus F.times F.power front.now check.new }
+{
+    let mut powers = [0; 2046];
+    let mut numbers = [0; 1024];
+    let mut exponents = [0; 1023];
+    let tables = Tables::new(&mut powers, &mut numbers);
+    write_in(&tables, front, check, &mut exponents);
+}
+
+// The same over any field.
+#[inline(never)]
+fn write_check_large<F: Field>(front: &[F], check: &mut [F])
+    requires some { 0 < length check.old }
+    requires few { length check.old < F.ORDER }
+    requires zeros { check.old ≡ replicate (length check.old) F.nought }
+    ensures { Completes F.nought F.plus F.times F.power front.now check.new }
+{
+    let mut powers = [0; 8190];
+    let mut numbers = [0; 4096];
+    let mut exponents = [0; 4095];
+    let tables = Tables::new(&mut powers, &mut numbers);
+    write_in(&tables, front, check, &mut exponents);
+}
+
+// The same with lists no longer than the field needs: a page of memory that is not touched costs no time.
 fn write_check<F: Field>(front: &[F], check: &mut [F])
     requires some { 0 < length check.old }
     requires few { length check.old < F.ORDER }
     requires zeros { check.old ≡ replicate (length check.old) F.nought }
     ensures { Completes F.nought F.plus F.times F.power front.now check.new }
 {
-    let mut exponents = [0; 4095];
-    write_in(&Tables::new(), front, check, &mut exponents);
+    if F::ORDER < 1024 {
+        write_check_small(front, check);
+    } else {
+        write_check_large(front, check);
+    }
 }
 
 /// Writes the check elements of `front` into `check`, as many as it has room for. Then `front` followed by `check`,

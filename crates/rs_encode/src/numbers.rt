@@ -1,6 +1,6 @@
 //! The check elements of a front over the numbers of elements.
 
-ghost use Rattle.std.specs.Prelude.{◌≡◌, ◌≤◌, ◌+◌, ◌++◌, All, length, map};
+ghost use Rattle.std.specs.Prelude.{◌≡◌, ◌<◌, ◌≤◌, ◌+◌, ◌++◌, All, length, map};
 ghost use Rattle.galois.specs.CheckNumbers.{IsContinuation};
 
 use crate::encode;
@@ -41,6 +41,29 @@ fn encode_in<P: Poly>(front: &[u16], check: &mut [u16], word: &mut [Gf<P>])
     write_numbers(registers, check);
 }
 
+// The same with a list of its own, over a field of at most 1024 elements.
+#[inline(never)]
+fn encode_small<P: Poly>(front: &[u16], check: &mut [u16])
+    requires small { P.ORDER < 1024 }
+    requires each { All (λ number. number ≤ P.ORDER) front.now }
+    requires few { length front.now + length check.old ≤ P.ORDER }
+    ensures { IsContinuation P.BITS P.POLY front.now (length check.old) (front.now ++ check.new) }
+{
+    let mut word = [Gf::<P>::zero(); 1023];
+    encode_in(front, check, &mut word);
+}
+
+// The same over any field.
+#[inline(never)]
+fn encode_large<P: Poly>(front: &[u16], check: &mut [u16])
+    requires each { All (λ number. number ≤ P.ORDER) front.now }
+    requires few { length front.now + length check.old ≤ P.ORDER }
+    ensures { IsContinuation P.BITS P.POLY front.now (length check.old) (front.now ++ check.new) }
+{
+    let mut word = [Gf::<P>::zero(); 4095];
+    encode_in(front, check, &mut word);
+}
+
 /// `encode` over numbers: writes into `check` the numbers of the check elements of the elements with the numbers
 /// `front`, in the field of `P`. So `front` followed by `check` is the only check word that begins with `front` and has
 /// as many check elements. It takes no memory. (ISO/IEC 24778, Reed-Solomon error correction.)
@@ -51,6 +74,9 @@ pub fn encode_numbers<P: Poly>(front: &[u16], check: &mut [u16])
     requires few { length front.now + length check.old ≤ P.ORDER }
     ensures { IsContinuation P.BITS P.POLY front.now (length check.old) (front.now ++ check.new) }
 {
-    let mut word = [Gf::<P>::zero(); 4095];
-    encode_in(front, check, &mut word);
+    if P::ORDER < 1024 {
+        encode_small::<P>(front, check);
+    } else {
+        encode_large::<P>(front, check);
+    }
 }

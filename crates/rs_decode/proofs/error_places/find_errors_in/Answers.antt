@@ -1,8 +1,12 @@
 use Rattle.std.proofs.Common.{◌≡◌, ◌+◌, ◌/◌, ◌++◌, arith, length, drop, take, get_or, List, ℕ}
+use Rattle.galois.proofs.TableLaws.{order_few}
 use Rattle.rs_decode.specs.Search.{AreErrorPlaces}
 use Rattle.rs_decode.proofs.Slices.{take_front, taken_all}
 use Rattle.rs_decode.proofs.Nearest.{count_few}
 use Rattle.rs_decode.proofs.error_places.find_errors_in.Goals as goal
+
+pub find_locator-width-requires-clause-small : goal.find_locator-width-requires-clause-small
+find_locator-width-requires-clause-small g c = omega (arith, c.requires.few, c.requires.fits, order_few g.met.F.Field.size)
 
 pub returns-clause-places : goal.returns-clause-places
 returns-clause-places g c =

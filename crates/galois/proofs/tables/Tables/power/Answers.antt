@@ -1,9 +1,9 @@
 use Rattle.std.proofs.Common.{◌∙◌, arith}
-use Rattle.galois.proofs.TableLaws.{order_few, power_at}
+use Rattle.galois.proofs.TableLaws.{power_at}
 use Rattle.galois.proofs.tables.Tables.power.Goals as goal
 
 pub bounds-self-exponent : goal.bounds-self-exponent
-bounds-self-exponent g c = omega (arith, c.requires, order_few g.met.F.Field.size)
+bounds-self-exponent g c = omega (arith, c.requires, c.args.self.now.are.powers_long)
 
 pub element_of-requires : goal.element_of-requires
 element_of-requires g c =

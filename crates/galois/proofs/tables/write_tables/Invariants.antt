@@ -1,6 +1,6 @@
 use Rattle.std.proofs.Common.{◌≡◌}
 use Rattle.galois.specs.Tables.{AreTables}
-use Rattle.galois.proofs.tables.Tables.new.Given as goal
+use Rattle.galois.proofs.tables.write_tables.Given as goal
 
 abbrev pub invariant-loop-exponent : goal.invariant-loop-exponent
 invariant-loop-exponent g l = record {
