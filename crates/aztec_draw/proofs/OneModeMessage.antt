@@ -1,13 +1,12 @@
 -- A mode message has one list of words, and so has the one of a rune: their bits in front tell the check words.
-use Rattle.std.proofs.Common.{◌≡◌, ℕ, ◌+◌, ◌<◌, ◌≤◌, ◌++◌, Bool, true, false, List, length, take, drop, map, bit_xor, refl, sym, ap, subst, ◌∙◌, arith, length-drop}
+use Rattle.std.proofs.Common.{◌≡◌, ℕ, ◌+◌, ◌<◌, ◌≤◌, ◌++◌, Bool, true, false, List, length, take, drop, map, refl, sym, ap, subst, ◌∙◌, arith, length-drop}
 use Rattle.std.specs.Prelude.{All}
 use Rattle.std.proofs.lemmas.List.{length-map, length-take-le, map-append, take-append-drop}
 use Rattle.std.proofs.lemmas.List.Elements.{All-drop, All-take}
 use Rattle.galois.specs.CheckNumbers.{IsCheckWordIn, polynomial_of}
-use Rattle.galois.specs.FieldLaws.{alpha_within, equal_of, laws_of, numbering_of, power_within, product_within, size_of, sum_within, zero_within}
-use Rattle.galois.specs.Polynomials.{IsPrimitive, power_of, product_of}
+use Rattle.galois.specs.FieldLaws.{equal_of, laws_of}
 use Rattle.galois.specs.PrimitiveLaws.{primitive-16}
-use Rattle.galois.proofs.CheckNumbers.{HasNumbers, elements_check, elements_of}
+use Rattle.galois.proofs.CheckNumbers.{HasNumbers, elements_check, elements_of, field_numbers}
 use Rattle.galois.proofs.CheckWords.{only_check}
 use Rattle.aztec_layout.specs.declared.sizes.Size.{Size}
 use Rattle.aztec_layout.specs.ModeMessage.{IsModeMessage, check_words, front_words, word_bits}
@@ -27,22 +26,6 @@ made_back a = refl
 
 number_made : (n : ℕ) (within : n ≤ 15) → (nibble n within).number ≡ n
 number_made n within = refl
-
--- The elements of the field of a primitive polynomial carry its operations to their numbers.
-field_numbers : {A : Type 0} {bits order poly : ℕ} (primitive : IsPrimitive bits order poly) (make : (k : ℕ) → k ≤ order → A) (number : A → ℕ)
-    (within : (a : A) → number a ≤ order) (back : (a : A) → make (number a) (within a) ≡ a) (forth : (k : ℕ) (kw : k ≤ order) → number (make k kw) ≡ k)
-    → HasNumbers bits poly order number (make 0 (zero_within primitive))
-    (λ a b. make (bit_xor (number a) (number b)) (sum_within primitive (number a) (number b) (within a) (within b)))
-    (λ a b. make (product_of bits poly (number a) (number b)) (product_within primitive (number a) (number b) (within a)))
-    (λ k. make (power_of bits poly 2 k) (power_within primitive 2 k (alpha_within primitive)))
-field_numbers {A} {bits} {order} {poly} primitive make number within back forth = record {
-  size = (size_of primitive).order_is;
-  numbering = numbering_of make number within back forth;
-  zero_is = forth 0 (zero_within primitive);
-  sum_is = λ a b. forth (bit_xor (number a) (number b)) (sum_within primitive (number a) (number b) (within a) (within b));
-  product_is = λ a b. forth (product_of bits poly (number a) (number b)) (product_within primitive (number a) (number b) (within a));
-  power_is = λ k. forth (power_of bits poly 2 k) (power_within primitive 2 k (alpha_within primitive));
-}
 
 abbrev Small : List ℕ → Type 0
 Small words = All (λ word. word < 16) words

@@ -1,29 +1,11 @@
 -- What the decoder answers over elements, said of bytes.
-use Rattle.std.proofs.Common.{◌≡◌, ℕ, ◌-◌, ◌≤◌, ◌↔◌, Bool, true, List, length, map, take, bit_xor, sym, ap, subst, ◌∙◌, arith}
+use Rattle.std.proofs.Common.{◌≡◌, ℕ, ◌-◌, ◌≤◌, ◌↔◌, Bool, true, List, length, map, take, sym, ap, subst, ◌∙◌, arith}
 use Rattle.std.proofs.lemmas.List.{length-map, length-take, take-map}
-use Rattle.galois.specs.FieldLaws.{alpha_within, numbering_of, power_within, product_within, size_of, sum_within, zero_within}
-use Rattle.galois.specs.Polynomials.{IsPrimitive, power_of, product_of}
 use Rattle.galois.specs.CheckNumbers.{IsCheckWordIn, apart, polynomial_of}
 use Rattle.galois.specs.CheckWord.{IsNear, distance}
 use Rattle.galois.proofs.CheckNumbers.{HasNumbers, apart-map, elements_check, elements_of, numbers_check}
 use Rattle.rs_decode.specs.Nearness.{IsCorrected}
 use Rattle.example_repair.specs.Repairs.{CameOf}
-
--- The elements of the field of a primitive polynomial carry its operations to their numbers.
-pub field_numbers : {A : Type 0} {bits order poly : ℕ} (primitive : IsPrimitive bits order poly) (make : (k : ℕ) → k ≤ order → A) (number : A → ℕ)
-    (within : (a : A) → number a ≤ order) (back : (a : A) → make (number a) (within a) ≡ a) (forth : (k : ℕ) (kw : k ≤ order) → number (make k kw) ≡ k)
-    → HasNumbers bits poly order number (make 0 (zero_within primitive))
-    (λ a b. make (bit_xor (number a) (number b)) (sum_within primitive (number a) (number b) (within a) (within b)))
-    (λ a b. make (product_of bits poly (number a) (number b)) (product_within primitive (number a) (number b) (within a)))
-    (λ k. make (power_of bits poly 2 k) (power_within primitive 2 k (alpha_within primitive)))
-field_numbers {A} {bits} {order} {poly} primitive make number within back forth = record {
-  size = (size_of primitive).order_is;
-  numbering = numbering_of make number within back forth;
-  zero_is = forth 0 (zero_within primitive);
-  sum_is = λ a b. forth (bit_xor (number a) (number b)) (sum_within primitive (number a) (number b) (within a) (within b));
-  product_is = λ a b. forth (product_of bits poly (number a) (number b)) (product_within primitive (number a) (number b) (within a));
-  power_is = λ k. forth (power_of bits poly 2 k) (power_within primitive 2 k (alpha_within primitive));
-}
 
 module _ {A : Type 0} {order : ℕ} {value : A → ℕ} {nought : A} {plus times : A → A → A} {power : ℕ → A}
     (carries : HasNumbers 8 (polynomial_of 8) order value nought plus times power) (equal : A → A → Bool)

@@ -3,8 +3,8 @@ use Rattle.std.proofs.lemmas.List.{take_at}
 use Rattle.galois.specs.CheckNumbers.{polynomial_of}
 use Rattle.galois.specs.FieldLaws.{equal_of}
 use Rattle.galois.specs.PrimitiveLaws.{primitive-256}
-use Rattle.galois.proofs.CheckNumbers.{HasNumbers}
-use Rattle.example_repair.proofs.Words.{field_numbers, finds_all, finds_none, finds_only}
+use Rattle.galois.proofs.CheckNumbers.{HasNumbers, field_numbers}
+use Rattle.example_repair.proofs.Words.{finds_all, finds_none, finds_only}
 use Rattle.example_repair.proofs.repaired.Goals as goal
 
 pub returns-in-Ok-clause-all : goal.returns-in-Ok-clause-all

@@ -2,8 +2,7 @@ use Rattle.std.proofs.Common.{◌≡◌, ◌++◌, length, map, ℕ, List, refl,
 use Rattle.std.proofs.lemmas.List.{take_at}
 use Rattle.galois.specs.CheckNumbers.{IsContinuation, polynomial_of}
 use Rattle.galois.specs.PrimitiveLaws.{primitive-256}
-use Rattle.galois.proofs.CheckNumbers.{HasNumbers, continued}
-use Rattle.example_repair.proofs.Words.{field_numbers}
+use Rattle.galois.proofs.CheckNumbers.{HasNumbers, continued, field_numbers}
 use Rattle.example_repair.proofs.with_check_bytes.Goals as goal
 
 pub returns : goal.returns

@@ -2,9 +2,9 @@ use Rattle.std.proofs.Common.{◌≡◌, ℕ, List, length, map, refl, sym, ap, 
 use Rattle.std.proofs.lemmas.List.{take_at}
 use Rattle.galois.specs.CheckNumbers.{apart}
 use Rattle.galois.specs.FieldLaws.{equal_of}
-use Rattle.galois.proofs.CheckNumbers.{HasNumbers}
+use Rattle.galois.proofs.CheckNumbers.{HasNumbers, field_numbers}
 use Rattle.symbol_reader.specs.Correction.{HasNoneNear, IsOnlyNear}
-use Rattle.symbol_reader.proofs.Corrections.{field_numbers, none_near, only_near}
+use Rattle.symbol_reader.proofs.Corrections.{none_near, only_near}
 use Rattle.symbol_reader.proofs.correction.correct.Goals as goal
 
 pub returns-in-Err : goal.returns-in-Err
