@@ -29,6 +29,7 @@ pub record IsRunStart (table : List Costs) (mode : Mode) (place bytes number : �
       ⊎ ((count : ℕ) × (31 ≤ count) × (count ≤ 2078) × (count ≤ bytes) × (number ≡ run_length table mode place 21 count))
       ⊎ (1073741824 ≤ number)
 
+-- The least bits over runs of both forms, for each mode that has runs: Upper, Lower and Mixed.
 pub record AreRunStarts (table : List Costs) (place bytes : ℕ) (lows : Lows) : Type 0 where
   pub upper : IsRunStart table Upper place bytes lows.upper
   pub lower : IsRunStart table Lower place bytes lows.lower

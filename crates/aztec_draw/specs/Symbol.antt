@@ -41,6 +41,7 @@ abbrev pub IsBitsFault : (bits : List Bool) → Allowed → DrawFault → Type 0
 IsBitsFault bits allowed NoMemory = Unit {0}
 IsBitsFault bits allowed (NoFit misfit) = HasNoFit bits allowed misfit
 
+-- What a refusal to draw elements says: no allowed size holds their drawn spelling. That memory is wanting says no more.
 abbrev pub IsDrawFault : (append : Bool) → (elements : List Element) → Allowed → DrawFault → Type 0
 IsDrawFault append elements allowed NoMemory = Unit {0}
 IsDrawFault append elements allowed (NoFit misfit) = HasNoSymbol append elements allowed misfit

@@ -30,6 +30,7 @@ abbrev pub IsNamed : Allowed → Size → Type 0
 IsNamed (AtShare share) size = Unit {0}
 IsNamed (Named named) size = size ≡ named
 
+-- A size is allowed where it is one of the 36 and, where a size is named, the named one.
 abbrev pub IsAllowed : Allowed → Size → Type 0
 IsAllowed allowed size = IsSize size × IsNamed allowed size
 

@@ -31,6 +31,7 @@ HoldsNeeds needs allowed size = needed_at needs size ≤ holds_of size (counted_
 abbrev pub version_named : ℕ → Option ℕ
 version_named version = if version == 0 then None else Some version
 
+-- What a share and a version allow: all sizes at the share where the version is 0, else the size that the version names.
 abbrev pub allowed_by : (share version : ℕ) → Allowed
 allowed_by share version = allowed_of share (version_named version)
 

@@ -40,6 +40,7 @@ flag_by n bits =
     else if n == 7 then None
     else onward_from (digits_ahead n 0 bits) (λ number. Some (Eci number n))
 
+-- FLG(n), from the three bits of n on.
 unfoldable pub flag_ahead : (bits : List Bool) → Option Code
 flag_ahead bits = onward_from (number_ahead 3 bits) (λ n. flag_by n (drop 3 bits))
 
@@ -47,6 +48,7 @@ flag_ahead bits = onward_from (number_ahead 3 bits) (λ n. flag_by n (drop 3 bit
 unfoldable pub run_by : (count : ℕ) (long : Bool) (bits : List Bool) → Option Code
 run_by count long bits = if nat_lt (length bits) (8 * count) then None else Some (Run count long)
 
+-- A run whose length has the long form, from the 11 bits on that write the length less 31.
 unfoldable pub long_ahead : (bits : List Bool) → Option Code
 long_ahead bits = onward_from (number_ahead 11 bits) (λ n. run_by (n + 31) true (drop 11 bits))
 
@@ -64,6 +66,7 @@ second_by to number bits (LatchTo mode) = None
 second_by to number bits (ShiftTo mode) = None
 second_by to number bits Binary = None
 
+-- The code after a shift to a mode, from the bits of its number on.
 unfoldable pub second_ahead : (to : Mode) (bits : List Bool) → Option Code
 second_ahead to bits = onward_from (number_ahead (mode_width to) bits) (λ number. second_by to number (drop (mode_width to) bits) (table_symbol to number))
 

@@ -100,6 +100,7 @@ state_code =
     code_by (FileMap × (Option Reading × Option (List ℕ))) (coded× (code (coded_list coded_ℕ) (coded_list coded_ℕ)) (coded× reading (coded_option (coded_list coded_ℕ))))
     (λ s. (s.files, (s.reading, s.writing))) (λ p. record { files = p.0; reading = p.1.0; writing = p.1.1 }) (λ _. refl)
 
+-- the same for the files, the reserved names, the calls and the counts of faults together
 abbrev pub files_value_code : Coded FilesValue
 files_value_code =
     let calls = code_by (List ℕ × ℕ) (coded× (coded_list coded_ℕ) coded_ℕ) (λ (c : Calls). (c.failing, c.made)) (λ p. record { failing = p.0; made = p.1 }) (λ _. refl) in

@@ -54,6 +54,7 @@ stand_of index = record { place = index / 24; state = numbered_state (index % 24
 abbrev pub text_stand : (place : ℕ) → (is_b latch fnc4 shift : Bool) → Stand
 text_stand place is_b latch fnc4 shift = record { place = place; state = record { set = if is_b then B else A; latch = latch; fnc4 = fnc4; shift = shift } }
 
+-- The stand before an element in set C, the set of pairs of digits.
 abbrev pub pairs_stand : (place : ℕ) → (latch fnc4 shift : Bool) → Stand
 pairs_stand place latch fnc4 shift = record { place = place; state = record { set = C; latch = latch; fnc4 = fnc4; shift = shift } }
 

@@ -35,9 +35,10 @@ encoding_of (SingleByte page) character = option_map (λ byte. byte ∷ []) (byt
 encoding_of Utf16Be character = Some (flat_map unit_bytes (encode_utf16 character))
 encoding_of Utf8 character = Some (encode_utf8 character)
 
--- The set has the character; the bytes of the character.
+-- The set has the character.
 abbrev pub has_character : CharacterSet → ℕ → Bool
 has_character set character = is_some (encoding_of set character)
 
+-- The bytes of a character in the set; none where the set lacks it.
 abbrev pub character_bytes : CharacterSet → ℕ → List ℕ
 character_bytes set character = unwrap_or (encoding_of set character) []

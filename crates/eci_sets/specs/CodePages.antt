@@ -36,31 +36,37 @@ page_pairs ranges = flat_map range_pairs ranges
 abbrev pub byte_paired : ℕ → List (ℕ × ℕ) → Option ℕ
 byte_paired character pairs = option_map (λ pair. pair.0) (find (λ pair. pair.1 == character) pairs)
 
+-- The byte of a character in the code page, where the page has the character.
 unfoldable pub byte_for : CodePage → ℕ → Option ℕ
 byte_for page character = byte_paired character (page_pairs (ranges_of page))
 
--- The range has the character, or the byte.
+-- The range has the character.
 abbrev pub covers_character : ℕ → CodeRange → Bool
 covers_character character range =
     nat_le range.character character && nat_le (character + range.first) (range.character + range.last)
 
+-- The range has the byte.
 abbrev pub covers_byte : ℕ → CodeRange → Bool
 covers_byte byte range = nat_le range.first byte && nat_le byte range.last
 
--- The byte of a character, and the character of a byte, by the first range that has it.
+-- The byte of a character, by the first range that has it.
 unfoldable pub byte_by_ranges : List CodeRange → ℕ → Option ℕ
 byte_by_ranges ranges character =
     option_map (λ range. range.first + (character - range.character)) (find (covers_character character) ranges)
 
+-- A number as a character, where it is a scalar value of Unicode.
 abbrev pub as_character : ℕ → Option ℕ
 as_character number = if scalar number then Some number else None
 
+-- The character of a byte by a range that has it, where there is such a range.
 abbrev pub character_in : ℕ → Option CodeRange → Option ℕ
 character_in byte None = None
 character_in byte (Some range) = as_character (range.character + (byte - range.first))
 
+-- The character of a byte by the first range that has it.
 unfoldable pub character_by_ranges : List CodeRange → ℕ → Option ℕ
 character_by_ranges ranges byte = character_in byte (find (covers_byte byte) ranges)
 
+-- The character of a byte in the code page, where the byte has one.
 unfoldable pub character_for : CodePage → ℕ → Option ℕ
 character_for page byte = character_by_ranges (ranges_of page) byte

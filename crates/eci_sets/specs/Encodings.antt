@@ -19,6 +19,7 @@ first_lacking set place (character ∷ more) =
 abbrev pub joined_bytes : CharacterSet → List ℕ → List ℕ
 joined_bytes set characters = flat_map (character_bytes set) characters
 
+-- The bytes, or the refusal at the place of a character that is lacking, where there is one.
 abbrev pub unless_lacking : Option ℕ → List ℕ → Result (List ℕ) SetFault
 unless_lacking None bytes = Ok bytes
 unless_lacking (Some place) bytes = Err (NoCharacter place)

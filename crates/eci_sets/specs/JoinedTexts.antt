@@ -17,9 +17,11 @@ pub record Part : Type 0 where
 abbrev pub IsPartText : ℕ → (bytes text : List ℕ) → Type 0
 IsPartText eci bytes text = ((bytes ≡ []) × (text ≡ [])) ⊎ IsEncodedIn (set_numbered eci) text bytes
 
+-- The bytes of the part have its text in the set of its number.
 abbrev pub IsPart : Part → Type 0
 IsPart part = IsPartText part.eci part.bytes part.text
 
+-- Bytes as elements.
 abbrev pub byte_elements : List ℕ → List Element
 byte_elements bytes = map (λ byte. Byte byte) bytes
 

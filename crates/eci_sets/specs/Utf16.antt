@@ -12,6 +12,7 @@ abbrev pub paired_character : ℕ → ℕ → Option FirstCharacter
 paired_character high low =
     if is_low_surrogate low then Some (record { character = surrogate_pair_char high low; size = 4 }) else None
 
+-- The character of a high surrogate and the two bytes behind it, where they are a low surrogate.
 abbrev pub after_high_surrogate : ℕ → List ℕ → Option FirstCharacter
 after_high_surrogate unit [] = None
 after_high_surrogate unit (high ∷ []) = None

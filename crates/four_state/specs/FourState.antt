@@ -23,13 +23,15 @@ index_of byte = position (λ character. character == byte) four_state_characters
 unfoldable pub indices_of : (byte : ℕ) → List ℕ
 indices_of byte = option_to_list (index_of (to_ascii_uppercase byte))
 
--- A character's row and column in the table, counted from 1.
+-- A character's row in the table, counted from 1.
 abbrev pub row : (index : ℕ) → ℕ
 row index = index / 6 + 1
 
+-- A character's column in the table, counted from 1.
 abbrev pub column : (index : ℕ) → ℕ
 column index = index % 6 + 1
 
+-- The index of the character in a row and a column of the table.
 abbrev pub table_index : (row column : ℕ) → ℕ
 table_index row column = (row - 1) * 6 + (column - 1)
 
@@ -37,6 +39,7 @@ table_index row column = (row - 1) * 6 + (column - 1)
 unfoldable pub check_number : (numbers : List ℕ) → ℕ
 check_number numbers = if sum numbers % 6 == 0 then 6 else sum numbers % 6
 
+-- The index of the check character: that in the check row and the check column of the characters.
 unfoldable pub check_index : (indices : List ℕ) → ℕ
 check_index indices = table_index (check_number (map row indices)) (check_number (map column indices))
 
@@ -73,6 +76,7 @@ rm4scc_picture ascenders descenders = record {
   modules = rm4scc_modules ascenders descenders;
 }
 
+-- The symbol of the characters with these indices: the picture of its bars, and the index of the check character.
 unfoldable pub rm4scc_symbol : (indices : List ℕ) → Linear
 rm4scc_symbol indices = record { grid = rm4scc_picture (ascenders indices) (descenders indices); checks = check_index indices ∷ [] }
 

@@ -21,16 +21,19 @@ pub turn-cleared : (n p a : ℕ) → turn n p a ≡ cleared n p 0 (a * 2)
 unfolding turn
 turn-cleared n p a = simp (add-zero, mul-one)
 
+-- a step on a sum gives the sum of the steps on its parts
 pub cleared-sum : (n p k a b : ℕ) → cleared n p k (bit_xor a b) ≡ bit_xor (cleared n p k a) (cleared n p k b)
 cleared-sum n p k a b =
     ap (bit_xor (bit_xor a b)) (coefficient-sum a b (n + k) (p * 2 ^ k))
     ∙ xor_four a b (bit_at a (n + k) * (p * 2 ^ k)) (bit_at b (n + k) * (p * 2 ^ k))
 
+-- the remainder of a sum is the sum of the remainders
 pub remainder-sum : (n p k a b : ℕ) → remainder n p k (bit_xor a b) ≡ bit_xor (remainder n p k a) (remainder n p k b)
 unfolding remainder
 remainder-sum n p zero a b = refl
 remainder-sum n p (suc k) a b = ap (remainder n p k) (cleared-sum n p k a b) ∙ remainder-sum n p k (cleared n p k a) (cleared n p k b)
 
+-- a step at the next power on x times z gives x times the step on z
 pub cleared-double : (n p k z : ℕ) → cleared n p (suc k) (z * 2) ≡ cleared n p k z * 2
 cleared-double n p k z =
     let place : bit_at (z * 2) (n + suc k) ≡ bit_at z (n + k) = ap (bit_at (z * 2)) (add-suc n k) ∙ double-coefficient z (n + k) in
@@ -46,7 +49,7 @@ unfolding remainder
 remainder-double n p zero z = sym (turn-cleared n p z)
 remainder-double n p (suc k) z = ap (remainder n p (suc k)) (cleared-double n p k z) ∙ remainder-double n p k (cleared n p k z)
 
--- a multiple by a coefficient
+-- a step at a power whose coefficient is nought changes nothing
 pub cleared-off : (n p k z : ℕ) → bit_at z (n + k) ≡ 0 → cleared n p k z ≡ z
 cleared-off n p k z e = rw e (rw zero-mul (xor_zero_r z))
 
@@ -57,6 +60,7 @@ remainder-small n p zero z h = refl
 remainder-small n p (suc k) z h =
     ap (remainder n p k) (cleared-off n p k z (bit_at_above z n (n + k) h (omega arith))) ∙ remainder-small n p k z h
 
+-- the remainder of zero is zero
 pub remainder-zero : (n p k : ℕ) → remainder n p k 0 ≡ 0
 remainder-zero n p k = remainder-small n p k 0 (pow_pos n)
 
@@ -71,9 +75,11 @@ cleared_by n p k z _ on e l u h =
     let high : p * 2 ^ k < 2 ^ suc (n + k) = rw more (mul-lt-mul_of_pos_right u (pow_pos k)) in
     rw one-mul (same_degree (n + k) z (p * 2 ^ k) (degree_reached (n + k) z h e) h low high)
 
+-- where p has the degree n, the step at the power k takes a polynomial of degree at most n + k to one of a degree below n + k
 pub cleared_below : (n p k z : ℕ) → 2 ^ n ≤ p → p < 2 ^ (n + 1) → z < 2 ^ suc (n + k) → cleared n p k z < 2 ^ (n + k)
 cleared_below n p k z l u h = cleared_by n p k z (bit_at z (n + k)) (coefficient z (n + k)) refl l u h
 
+-- the remainder of a multiple by a coefficient, nought or one, is that multiple of the remainder
 pub remainder-scaled : (n p k x m : ℕ) → Bit x → remainder n p k (x * m) ≡ x * remainder n p k m
 remainder-scaled n p k _ m off = simp (zero-mul, remainder-zero)
 remainder-scaled n p k _ m on = simp one-mul

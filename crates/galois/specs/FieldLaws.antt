@@ -11,42 +11,53 @@ use Rattle.galois.specs.Field.{IsField, IsFieldSize, IsNumbering}
 use Rattle.galois.specs.MultipleLaws.{one_below, product_below, product-one, product-sum, product_comm, product_assoc}
 use Rattle.galois.specs.PowerLaws.{two_below, power-zero, power-next, power-one, order_positive, power-turned, power_below, turned-nonzero, turned_distinct, product-inverse, is_power}
 
+-- a number up to the order is below 2 ^ n
 pub below_of : {n o p : ℕ} → IsPrimitive n o p → (a : ℕ) → a ≤ o → a < 2 ^ n
 below_of h a within = omega (arith, h.order_is)
 
+-- a number below 2 ^ n is at most the order
 pub within_of : {n o p : ℕ} → IsPrimitive n o p → (a : ℕ) → a < 2 ^ n → a ≤ o
 within_of h a below = omega (arith, h.order_is)
 
 -- ---- every operation stays within 0 to the order
 
+-- zero is at most the order
 pub zero_within : {n o p : ℕ} → IsPrimitive n o p → 0 ≤ o
 zero_within h = omega arith
 
+-- one is at most the order
 pub one_within : {n o p : ℕ} → IsPrimitive n o p → 1 ≤ o
 one_within h = within_of h 1 (one_below h)
 
+-- alpha, the number 2, is at most the order
 pub alpha_within : {n o p : ℕ} → IsPrimitive n o p → 2 ≤ o
 alpha_within h = omega (arith, order_positive h)
 
+-- the sum of two elements is at most the order
 pub sum_within : {n o p : ℕ} → IsPrimitive n o p → (a b : ℕ) → a ≤ o → b ≤ o → bit_xor a b ≤ o
 sum_within {n} h a b aw bw = within_of h (bit_xor a b) (xor_lt n a b (below_of h a aw) (below_of h b bw))
 
+-- the product of an element and any number is at most the order
 pub product_within : {n o p : ℕ} → IsPrimitive n o p → (a b : ℕ) → a ≤ o → product_of n p a b ≤ o
 product_within {n} {o} {p} h a b aw = within_of h (product_of n p a b) (product_below h a b (below_of h a aw))
 
+-- every power of an element is at most the order
 pub power_within : {n o p : ℕ} → IsPrimitive n o p → (a k : ℕ) → a ≤ o → power_of n p a k ≤ o
 power_within {n} {o} {p} h a k aw = within_of h (power_of n p a k) (power_below h a k (below_of h a aw))
 
 -- ---- the laws, at a type A that is made of a number and that it is within the order
 
+-- of equal numbers the same element is made
 pub same_made : {A : Type 0} {o : ℕ} (make : (k : ℕ) → k ≤ o → A) (j k : ℕ) (jw : j ≤ o) (kw : k ≤ o) → j ≡ k → make j jw ≡ make k kw
 same_made {A} {o} make j k jw kw e =
     let P : ℕ → Type 0 = λ i. (iw : i ≤ o) → make j jw ≡ make i iw in
     subst P e (λ iw. ap (make j) (le_prop jw iw)) kw
 
+-- the degree and the order of a primitive polynomial are the number of bits and the greatest number of an element of a field
 pub size_of : {n o p : ℕ} → IsPrimitive n o p → IsFieldSize n o
 size_of h = record { two_or_more = h.two_or_more; twelve_or_less = h.twelve_or_less; order_is = h.order_is }
 
+-- where making an element of a number and taking an element's number undo each other, the elements are numbered 0 to the order
 pub numbering_of : {A : Type 0} {o : ℕ} (make : (k : ℕ) → k ≤ o → A) (number : A → ℕ)
     (within : (a : A) → number a ≤ o) (back : (a : A) → make (number a) (within a) ≡ a)
     (forth : (k : ℕ) (kw : k ≤ o) → number (make k kw) ≡ k)
@@ -57,6 +68,7 @@ numbering_of make number within back forth = record {
   onto = λ k kw. (make k kw, forth k kw);
 }
 
+-- where an element can be made again of its number, two elements have equal numbers just where they are equal
 pub equal_of : {A : Type 0} {o : ℕ} (make : (k : ℕ) → k ≤ o → A) (number : A → ℕ)
     (within : (a : A) → number a ≤ o) (back : (a : A) → make (number a) (within a) ≡ a)
     (a b : A) → (eqb (number a) (number b) ≡ true) ↔ (a ≡ b)
@@ -65,6 +77,7 @@ equal_of make number within back a b = (
   λ e. eq-eqb (number a) (number b) (ap number e),
 )
 
+-- elements made of the numbers 0 to the order are a field, with the sums, products, inverses and powers of alpha that the primitive polynomial gives their numbers
 pub laws_of : {A : Type 0} {n o p : ℕ} (h : IsPrimitive n o p) (make : (k : ℕ) → k ≤ o → A) (number : A → ℕ)
     (within : (a : A) → number a ≤ o) (back : (a : A) → make (number a) (within a) ≡ a)
     (forth : (k : ℕ) (kw : k ≤ o) → number (make k kw) ≡ k)

@@ -15,20 +15,25 @@ pub two_is : {n o p : ℕ} → IsPrimitive n o p → turn n p 1 ≡ 2
 unfolding turned
 two_is {n} {o} {p} h = turned-one n p 1 (omega (arith, h.two_or_more))
 
+-- alpha, the number 2, is an element: below 2 ^ n
 pub two_below : {n o p : ℕ} → IsPrimitive n o p → 2 < 2 ^ n
 two_below {n} h = let four : 2 ^ 2 ≤ 2 ^ n = pow_mono h.two_or_more in omega arith
 
+-- the order is at least 3
 pub order_positive : {n o p : ℕ} → IsPrimitive n o p → 3 ≤ o
 order_positive {n} h = let four : 2 ^ 2 ≤ 2 ^ n = pow_mono h.two_or_more in omega (arith, h.order_is)
 
+-- the power 0 of an element is one
 pub power-zero : (n p a : ℕ) → power_of n p a 0 ≡ 1
 unfolding power_of
 power-zero n p a = refl
 
+-- the power k + 1 of an element is its power k times the element
 pub power-next : (n p a k : ℕ) → power_of n p a (k + 1) ≡ product_of n p (power_of n p a k) a
 unfolding power_of
 power-next n p a k = ap (power_of n p a) (add-one k)
 
+-- the power 1 of an element is the element
 pub power-one : {n o p : ℕ} → IsPrimitive n o p → (a : ℕ) → a < 2 ^ n → power_of n p a 1 ≡ a
 unfolding power_of
 power-one h a below = product-one h a below
@@ -48,11 +53,13 @@ power-turned {n} {o} {p} h (suc k) =
 
 -- ---- back to one after `order` steps
 
+-- the power `order` of x is one
 pub comes_round : {n o p : ℕ} → IsPrimitive n o p → turned n p o 1 ≡ 1
 comes_round {n} {o} {p} h =
     sym (remainder-shifted n p 0 o 1 (one_below h)) ∙ ap (λ (k : ℕ). remainder n p k (1 * 2 ^ o)) (zero-add o)
     ∙ ap (remainder n p o) (one-mul (2 ^ o)) ∙ h.comes_back
 
+-- the power `order` of x times an element is the element
 pub round : {n o p : ℕ} → IsPrimitive n o p → (v : ℕ) → v < 2 ^ n → turned n p o v ≡ v
 round {n} {o} {p} h v below =
     ap (turned n p o) (sym (one-multiple n p v below)) ∙ sym (multiple-turned n p n v o 1)
@@ -67,6 +74,7 @@ turn-injective {n} {o} {p} h v w vb wb e =
     λ u ub. turned-turn n p (o - 1) u ∙ ap (λ (k : ℕ). turned n p k u) (sym some) ∙ round h u ub in
     sym (back v vb) ∙ ap (turned n p (o - 1)) e ∙ back w wb
 
+-- a power of x times two elements is one element only where they are one
 pub turned-injective : {n o p : ℕ} → IsPrimitive n o p → (k v w : ℕ) → v < 2 ^ n → w < 2 ^ n → turned n p k v ≡ turned n p k w → v ≡ w
 unfolding turned
 turned-injective h zero v w vb wb e = e
@@ -74,11 +82,13 @@ turned-injective {n} {o} {p} h (suc k) v w vb wb e =
     turned-injective h k v w vb wb
     (turn-injective h (turned n p k v) (turned n p k w) (turned_below h k v vb) (turned_below h k w wb) e)
 
+-- no power of x is zero
 pub turned-nonzero : {n o p : ℕ} → IsPrimitive n o p → (k : ℕ) → turned n p k 1 ≢ 0
 turned-nonzero {n} {o} {p} h k e =
     let same : ◌≡◌ {A = ℕ} 1 0 = turned-injective h k 1 0 (one_below h) (omega (arith, one_below h)) (e ∙ sym (turned-zero n p k)) in
     absurd (omega arith)
 
+-- no power of x above the power 0 and below the power `order` is one
 pub turned-not_one : {n o p : ℕ} → IsPrimitive n o p → (k : ℕ) → 0 < k → k < o → turned n p k 1 ≢ 1
 turned-not_one {n} {o} {p} h k some less e =
     h.not_before k some less
@@ -93,6 +103,7 @@ turned_apart {n} {o} {p} h i j less below e =
     turned-injective h i 1 (turned n p (j - i) 1) (one_below h) (turned_below h (j - i) 1 (one_below h)) (e ∙ sym far) in
     turned-not_one h (j - i) (omega arith) (omega arith) (sym same)
 
+-- two powers of x below the power `order` are equal only where their exponents are
 pub turned_distinct : {n o p : ℕ} → IsPrimitive n o p → (i j : ℕ) → i < o → j < o → turned n p i 1 ≡ turned n p j 1 → i ≡ j
 turned_distinct h i j ib jb e =
     elim (cases_order i j) [
@@ -161,6 +172,7 @@ too_many {n} {o} {p} h a some below none =
     let count = length-le_from_distinct_below (0 ∷ a ∷ powers n p o) (2 ^ n) apart (λ q. one_of_below (2 ^ n) q (0 ∷ a ∷ powers n p o) (omega arith, (below, powers_below h o))) in
     omega (arith, count, length-powers n p o, h.order_is)
 
+-- every element but zero is a power of x below the power `order`
 pub is_power : {n o p : ℕ} → IsPrimitive n o p → (a : ℕ) → 0 < a → a < 2 ^ n → IsPowerBelow n p o a
 is_power {n} {o} {p} h a some below =
     elim (power_or_not n p o a) [ inl found ↦ found | inr none ↦ absurd (too_many h a some below none) ]
@@ -184,11 +196,13 @@ power-of_turned {n} {o} {p} h i (suc k) =
     ∙ ap (turned n p (k * i)) (one-multiple n p (turned n p i 1) (turned_below h i 1 (one_below h)))
     ∙ turned-turned n p (k * i) i 1 ∙ ap (λ (j : ℕ). turned n p j 1) (sym (suc-mul k i))
 
+-- a power of an element is an element: below 2 ^ n
 pub power_below : {n o p : ℕ} → IsPrimitive n o p → (a k : ℕ) → a < 2 ^ n → power_of n p a k < 2 ^ n
 unfolding power_of
 power_below h a zero below = one_below h
 power_below {n} {o} {p} h a (suc k) below = product_below h (power_of n p a k) a (power_below h a k below)
 
+-- the power `order` of every element but zero is one
 pub power-order : {n o p : ℕ} → IsPrimitive n o p → (a : ℕ) → 0 < a → a < 2 ^ n → power_of n p a o ≡ 1
 power-order {n} {o} {p} h a some below =
     let found = is_power h a some below in
@@ -205,6 +219,7 @@ product-inverse {n} {o} {p} h a some below =
 
 -- ---- powers of powers, for squaring
 
+-- the power j + k of an element is the product of its powers j and k
 pub power-add : {n o p : ℕ} → IsPrimitive n o p → (a j k : ℕ) → a < 2 ^ n → power_of n p a (j + k) ≡ product_of n p (power_of n p a j) (power_of n p a k)
 unfolding power_of
 power-add {n} {o} {p} h a j zero below =

@@ -43,6 +43,7 @@ power-remainder n p k small =
     ap (remainder n p k) (sym (one-mul (2 ^ k))) ∙ ap (λ (i : ℕ). remainder n p i (1 * 2 ^ k)) (sym (zero-add k))
     ∙ remainder-shifted n p 0 k 1 small
 
+-- a polynomial of degree n, 2 to 12, is primitive where the powers of x come to one at the order, 2 ^ n - 1, and not before
 pub primitive_of : (n o p : ℕ) → 2 ≤ n → n ≤ 12 → suc o + 1 ≡ 2 ^ n → 2 ^ n ≤ p → p < 2 ^ (n + 1) → 1 < 2 ^ n
     → comes_to_one n p o (turn n p 1) ≡ true → IsPrimitive n (suc o) p
 unfolding turned

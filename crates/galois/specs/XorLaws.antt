@@ -11,11 +11,13 @@ pub data Bit : ℕ → Type 0 where
   off : Bit 0
   on : Bit 1
 
+-- a number below 2 is nought or one
 pub bit_of : (m : ℕ) → m < 2 → Bit m
 bit_of zero h = off
 bit_of (suc zero) h = on
 bit_of (suc (suc m)) h = absurd (omega arith)
 
+-- every coefficient of a polynomial is nought or one
 pub coefficient : (a i : ℕ) → Bit (bit_at a i)
 coefficient a i = bit_of (bit_at a i) (bit_at-lt a i)
 
@@ -32,6 +34,7 @@ scaled_sum _ _ m off on = simp (zero-mul, one-mul, xor_zero_l)
 scaled_sum _ _ m on off = simp (zero-mul, one-mul, xor_zero_r)
 scaled_sum _ _ m on on = simp (zero-mul, one-mul, xor_self)
 
+-- a multiple by a sum's coefficient is the sum of the multiples by the coefficients of its parts
 pub coefficient-sum : (a b i m : ℕ) → bit_at (bit_xor a b) i * m ≡ bit_xor (bit_at a i * m) (bit_at b i * m)
 coefficient-sum a b i m = ap (λ (x : ℕ). x * m) (bit_at_xor a b i) ∙ scaled_sum (bit_at a i) (bit_at b i) m (coefficient a i) (coefficient b i)
 
@@ -44,6 +47,7 @@ scaled-sum _ a b on = simp one-mul
 pub double-sum : (a b : ℕ) → bit_xor a b * 2 ≡ bit_xor (a * 2) (b * 2)
 double-sum a b = sym (simp add-zero at (xor_block 1 a b 0 0 (omega arith) (omega arith)))
 
+-- the coefficient of the power i + 1 in x times a is that of the power i in a
 pub double-coefficient : (a i : ℕ) → bit_at (a * 2) (suc i) ≡ bit_at a i
 double-coefficient a i = bit_at-suc (a * 2) i ∙ ap (λ (x : ℕ). bit_at x i) (mul-div_left a {n = 2} (omega arith))
 
@@ -72,6 +76,7 @@ degree_drops m z h e =
     let split : z ≡ 0 * 2 ^ m + z % 2 ^ m = rw e at (highest m z h) in
     omega (arith, split, r, zero-mul (2 ^ m))
 
+-- where the coefficient of the highest power m is one, the polynomial has the degree m
 pub degree_reached : (m z : ℕ) → z < 2 ^ suc m → bit_at z m ≡ 1 → 2 ^ m ≤ z
 degree_reached m z h e =
     let split : z ≡ 1 * 2 ^ m + z % 2 ^ m = rw e at (highest m z h) in

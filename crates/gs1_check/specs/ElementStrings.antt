@@ -45,6 +45,7 @@ string_elements string = map (λ byte. Byte byte) (string.identifier ++ string.v
 abbrev pub separator : Bool → List Element
 separator needed = if needed then Fnc1 ∷ [] else []
 
+-- A string needs a separator before the next one where it has no predefined length.
 abbrev pub needs_separator : ElementString → Bool
 needs_separator string = not (has_predefined_length string.identifier)
 
@@ -54,6 +55,7 @@ body_behind needed [] = []
 body_behind needed (string ∷ more) =
     separator needed ++ string_elements string ++ body_behind (needs_separator string) more
 
+-- The body of element strings: their elements, and FNC1 between two where the first needs a separator.
 abbrev pub body_of : List ElementString → List Element
 body_of strings = body_behind false strings
 
@@ -71,6 +73,7 @@ sections mark [] = []
 sections mark (byte ∷ text) =
     if byte == mark then before_first (λ d. d == mark) text ∷ sections mark text else sections mark text
 
+-- The section behind the opening bracket at a place: what follows it, up to the next opening bracket or the end.
 abbrev pub section_at : Brackets → List ℕ → ℕ → List ℕ
 section_at brackets text place = before_first (λ d. d == opening_bracket brackets) (drop (place + 1) text)
 
@@ -92,6 +95,7 @@ section_string section = record {
   value = drop (position_or_len is_no_digit section + 1) section;
 }
 
+-- The element strings of a text, one of each section.
 abbrev pub text_strings : Brackets → List ℕ → List ElementString
 text_strings brackets text = map section_string (sections (opening_bracket brackets) text)
 
@@ -100,9 +104,11 @@ abbrev pub unless_faulty : Option Gs1Fault → List Element → Result (List Ele
 unless_faulty None body = Ok body
 unless_faulty (Some fault) body = Err fault
 
+-- The body of the element strings that a text writes, or the first fault of the text.
 unfoldable pub text_body : Brackets → List ℕ → Result (List Element) Gs1Fault
 text_body brackets text = unless_faulty (text_fault brackets text) (body_of (text_strings brackets text))
 
+-- Round brackets where they are asked for, else square ones.
 abbrev pub brackets_of : Bool → Brackets
 brackets_of parens = if parens then Round else Square
 

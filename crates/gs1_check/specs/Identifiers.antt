@@ -9,10 +9,11 @@ use Rattle.gs1_check.specs.declared.identifiers.Format.{Format}
 use Rattle.gs1_check.specs.declared.identifiers.Row.{Row}
 use Rattle.gs1_check.specs.declared.identifiers.TheConstants.{ROWS}
 
--- The number that digits write.
+-- All bytes are digits.
 abbrev pub all_digits : List ℕ → Bool
 all_digits digits = list_all (λ digit. nat_lt (digit_value digit) 10) digits
 
+-- The number that an identifier's digits write; None where a byte is no digit.
 unfoldable pub identifier_number : List ℕ → Option ℕ
 identifier_number digits = if all_digits digits then Some (digits_value 10 digits) else None
 
@@ -21,9 +22,11 @@ abbrev pub has_identifier : ℕ → ℕ → Row → Bool
 has_identifier size number row =
     (row.length == size) && nat_le row.first number && nat_le number row.last && nat_le (number % 10) row.last_digit
 
+-- What values the identifier of so many digits and this number takes, by the first row that has it.
 unfoldable pub numbered_format : ℕ → ℕ → Option Format
 numbered_format size number = option_map (λ row. row.format) (find (has_identifier size number) ROWS)
 
+-- The same, where the digits write a number.
 abbrev pub format_by_number : ℕ → Option ℕ → Option Format
 format_by_number size None = None
 format_by_number size (Some number) = numbered_format size number
@@ -42,6 +45,7 @@ abbrev pub is_predefined : ℕ → Bool
 is_predefined lead =
     nat_le lead 4 || (nat_le 11 lead && nat_le lead 20) || (nat_le 31 lead && nat_le lead 36) || (lead == 41)
 
+-- Whether the element strings of an identifier are of predefined length, by its first two digits.
 unfoldable pub has_predefined_length : List ℕ → Bool
 has_predefined_length identifier = is_predefined (two_digits identifier 0)
 

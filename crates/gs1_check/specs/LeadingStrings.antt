@@ -22,11 +22,12 @@ leading_bytes (Byte byte ∷ more) = byte ∷ leading_bytes more
 leading_bytes (Eci number ∷ more) = []
 leading_bytes (Fnc1 ∷ more) = []
 
--- The value with which bytes begin: of a predefined length, or all of them.
+-- The most characters that a format allows; 0 where there is none.
 abbrev pub fixed_length : Option Format → ℕ
 fixed_length None = 0
 fixed_length (Some format) = format.most
 
+-- The value with which the bytes behind an identifier begin: as many as its predefined length says, else all of them.
 abbrev pub leading_value : List ℕ → List ℕ → List ℕ
 leading_value identifier bytes =
     if has_predefined_length identifier then take (fixed_length (identifier_format identifier)) bytes else bytes
@@ -36,6 +37,7 @@ abbrev pub sized_string : ℕ → List ℕ → ElementString
 sized_string size bytes =
     record { identifier = take size bytes; value = leading_value (take size bytes) (drop size bytes) }
 
+-- The element string with which bytes begin.
 unfoldable pub leading_string : List ℕ → ElementString
 leading_string bytes = sized_string (identifier_size (two_digits bytes 0)) bytes
 
@@ -43,5 +45,6 @@ leading_string bytes = sized_string (identifier_size (two_digits bytes 0)) bytes
 abbrev pub string_at : List Element → ℕ → ElementString
 string_at body place = leading_string (leading_bytes (drop place body))
 
+-- The number of bytes of an element string, identifier and value.
 abbrev pub string_length : ElementString → ℕ
 string_length string = length string.identifier + length string.value

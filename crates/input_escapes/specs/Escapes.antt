@@ -13,6 +13,7 @@ use Rattle.input_escapes.specs.declared.piece.NoPiece.{NoPiece}
 use Rattle.input_escapes.specs.declared.piece.NoPiece.TheVariants as no_piece
 use Rattle.input_escapes.specs.declared.piece.Piece.{Piece}
 
+-- bytes, by their numbers
 abbrev pub Bytes : Type 0
 Bytes = List ℕ
 
@@ -22,6 +23,7 @@ abbrev pub letters : List (ℕ × ℕ)
 letters = (48, 0) ∷ (69, 4) ∷ (97, 7) ∷ (98, 8) ∷ (116, 9) ∷ (110, 10) ∷ (118, 11) ∷ (102, 12) ∷ (114, 13)
     ∷ (101, 27) ∷ (71, 29) ∷ (82, 30) ∷ (92, 92) ∷ []
 
+-- the byte that a letter stands for after a backslash, where it stands for one
 unfoldable pub byte_of : ℕ → Option ℕ
 byte_of letter = option_map (λ row. row.1) (find (λ row. row.0 == letter) letters)
 
@@ -29,6 +31,7 @@ byte_of letter = option_map (λ row. row.1) (find (λ row. row.0 == letter) lett
 abbrev pub forms : List NumberForm
 forms = Decimal ∷ Octal ∷ Hexadecimal ∷ Character ∷ LongCharacter ∷ []
 
+-- the letter of a form: d, o, x, u or U
 abbrev pub letter_of : NumberForm → ℕ
 letter_of Decimal = 100
 letter_of Octal = 111
@@ -36,11 +39,13 @@ letter_of Hexadecimal = 120
 letter_of Character = 117
 letter_of LongCharacter = 85
 
+-- the base of a form's number: 10, 8 or 16
 abbrev pub base_of : NumberForm → ℕ
 base_of Decimal = 10
 base_of Octal = 8
 base_of _ = 16
 
+-- how many digits the number of a form has
 abbrev pub digits_of : NumberForm → ℕ
 digits_of Decimal = 3
 digits_of Octal = 3
@@ -48,6 +53,7 @@ digits_of Hexadecimal = 2
 digits_of Character = 4
 digits_of LongCharacter = 6
 
+-- the form of a letter, where it has one
 unfoldable pub form_of : ℕ → Option NumberForm
 form_of letter = find (λ form. letter_of form == letter) forms
 
@@ -55,18 +61,21 @@ form_of letter = find (λ form. letter_of form == letter) forms
 abbrev pub one_byte : ℕ → Option Bytes
 one_byte n = if nat_lt n 256 then Some (n ∷ []) else None
 
+-- the bytes in UTF-8 of the character of a number, where it has one
 abbrev pub one_character : ℕ → Option Bytes
 one_character n = if scalar n then Some (encode_utf8 n) else None
 
+-- the bytes that a number stands for in a form: a character after u or U, one byte after the other letters
 unfoldable pub stands_for : NumberForm → ℕ → Option Bytes
 stands_for Character n = one_character n
 stands_for LongCharacter n = one_character n
 stands_for _ n = one_byte n
 
--- the number that digits of the base write
+-- all bytes are digits of the base
 abbrev pub are_digits : ℕ → Bytes → Bool
 are_digits base ds = list_all (λ d. nat_lt (digit_value d) base) ds
 
+-- the number that bytes write, where all of them are digits of the base
 unfoldable pub number_written : ℕ → Bytes → Option ℕ
 number_written base ds = if are_digits base ds then Some (digits_value base ds) else None
 
@@ -93,6 +102,7 @@ abbrev pub head_of_number : NumberForm → Option ℕ → Head
 head_of_number form None = short
 head_of_number form (Some n) = bounded (digits_of form + 2) (stands_for form n)
 
+-- what stands at the front, by the form of the letter and the bytes behind it
 unfoldable pub number_head : NumberForm → Bytes → Head
 number_head form rest = head_of_number form (number_at (base_of form) (digits_of form) rest)
 
@@ -106,6 +116,7 @@ abbrev pub letter_head : ℕ → Option ℕ → Bytes → Head
 letter_head letter (Some byte) rest = piece 2 (byte ∷ [])
 letter_head letter None rest = form_head (form_of letter) rest
 
+-- what a backslash begins, by the bytes behind it
 unfoldable pub after_backslash : Bytes → Head
 after_backslash [] = short
 after_backslash (letter ∷ rest) = letter_head letter (byte_of letter) rest
@@ -120,6 +131,7 @@ abbrev pub bytes_of : Value → Bytes
 bytes_of (value.Byte byte) = byte ∷ []
 bytes_of (value.Character c) = encode_utf8 c
 
+-- what stands at the front, as the code answers it
 abbrev pub seen : Result Piece NoPiece → Head
 seen (Ok p) = piece p.length (bytes_of p.value)
 seen (Err no_piece.Unknown) = unknown

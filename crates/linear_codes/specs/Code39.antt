@@ -33,6 +33,7 @@ check39 values = sum values % 43
 unfoldable pub checks39 : (values : List ℕ) → (check : Bool) → List ℕ
 checks39 values check = if check then check39 values ∷ [] else []
 
+-- The symbol of values and of the check characters behind them.
 unfoldable pub symbol39 : (values checks : List ℕ) → Linear
 symbol39 values checks = record { grid = row_picture (symbol_widths39 (values ++ checks)); checks = checks }
 

@@ -37,9 +37,11 @@ weighted_check most values = weighted (weight_to most) values % 47
 abbrev pub check_c : (values : List ℕ) → ℕ
 check_c values = weighted_check 20 values
 
+-- The check character K, over the values and C, with weights to 15.
 abbrev pub check_k : (values : List ℕ) → ℕ
 check_k values = weighted_check 15 (values ++ check_c values ∷ [])
 
+-- The two check characters of values, first C, then K.
 unfoldable pub checks93 : (values : List ℕ) → List ℕ
 checks93 values = check_c values ∷ check_k values ∷ []
 
@@ -56,6 +58,7 @@ unfoldable pub values_or_shifted : (value : Option ℕ) → (byte : ℕ) → Lis
 values_or_shifted (Some value) byte = value ∷ []
 values_or_shifted None byte = option_to_list (shift_of (full_ascii_sign byte)) ++ option_to_list (character_value (full_ascii_letter byte))
 
+-- The values by which a byte is drawn: its own as a character, or those of a shift character and a letter.
 unfoldable pub values93 : (byte : ℕ) → List ℕ
 values93 byte = values_or_shifted (character_value byte) byte
 

@@ -6,6 +6,7 @@ use Rattle.linear_codes.specs.declared.full_ascii.TheConstants.{FULL_ASCII_SIGNS
 unfoldable pub full_ascii_signs : List ℕ
 full_ascii_signs = FULL_ASCII_SIGNS
 
+-- The letters of the bytes, in their order.
 unfoldable pub full_ascii_letters : List ℕ
 full_ascii_letters = FULL_ASCII_LETTERS
 
@@ -13,6 +14,7 @@ full_ascii_letters = FULL_ASCII_LETTERS
 unfoldable pub full_ascii_sign : (byte : ℕ) → ℕ
 full_ascii_sign byte = slice_index full_ascii_signs byte
 
+-- The letter of a byte, which stands behind its sign.
 unfoldable pub full_ascii_letter : (byte : ℕ) → ℕ
 full_ascii_letter byte = slice_index full_ascii_letters byte
 

@@ -55,6 +55,7 @@ filled_to_thirteen digits = replicate (13 - length digits) 0 ++ digits
 abbrev pub checked : (digits : List ℕ) → (given : ℕ) → Result (List ℕ) LinearFault
 checked digits given = if given == check_digit digits then Ok digits else Err (BadCheck 13 given (check_digit digits))
 
+-- The digits in front of the check digit: the first 13 of 14, the last being checked, and else the digits filled with zeros on the left.
 unfoldable pub thirteen : (digits : List ℕ) → Result (List ℕ) LinearFault
 thirteen digits = if length digits == 14 then checked (take 13 digits) (slice_index digits 13) else Ok (filled_to_thirteen digits)
 

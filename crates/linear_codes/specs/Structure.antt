@@ -33,5 +33,6 @@ bars39 value = if is_sign value then replicate 5 1 else digit_elements (digit39 
 abbrev pub wide_space : (value : ℕ) → ℕ
 wide_space value = if nat_lt value 10 then 1 else if nat_lt value 20 then 2 else if nat_lt value 30 then 3 else 0
 
+-- The four spaces of a character of Code 39, 2 for a wide one and 1 for a narrow one.
 unfoldable pub spaces39 : (value : ℕ) → List ℕ
 spaces39 value = if is_sign value then slice_set (replicate 4 2) (42 - value) 1 else slice_set (replicate 4 1) (wide_space value) 2

@@ -30,9 +30,11 @@ pub record CallBefore : Type 0 where
   pub left : Option (List ℕ)
   pub files : Option FilesState
 
+-- What is known before a call, put together of its three parts.
 abbrev pub before_of : Outcome → (left : Option (List ℕ)) → (files : Option FilesState) → CallBefore
 before_of outcome left files = record { outcome = outcome; left = left; files = files }
 
+-- What is known before a call of these words, the first of which is the program's name.
 abbrev pub before : {Z : Type 0} → (words : List (String Z)) → (left : Option (List ℕ)) → (files : Option FilesState)
     → CallBefore
 before words left files = before_of (outcome_of (map string_bytes words)) left files

@@ -14,6 +14,7 @@ pub record CallAfter : Type 0 where
   pub files_old : Option FilesState
   pub files_new : Option FilesState
 
+-- What a call leaves, put together of its four parts.
 abbrev pub after : (out_old out_new : Option (List ℕ)) (files_old files_new : Option FilesState) → CallAfter
 after out_old out_new files_old files_new =
     record { out_old = out_old; out_new = out_new; files_old = files_old; files_new = files_new }

@@ -31,6 +31,7 @@ kind_by (Some Round) binary eci = kind.Gs1 true
 kind_by (Some Square) binary eci = kind.Gs1 false
 kind_by None binary eci = if binary then kind.Bytes eci else kind.Text eci
 
+-- What the data is, by the options of the drawing.
 abbrev pub data_kind : DrawingOptions → DataKind
 data_kind options = kind_by options.gs1 options.binary options.eci
 
@@ -38,6 +39,7 @@ data_kind options = kind_by options.gs1 options.binary options.eci
 abbrev pub IsKnownEci : Option ℕ → Type 0
 IsKnownEci eci = IfSome eci (λ number. is_character_set number ≡ true)
 
+-- An ECI that is named with the data is that of a character set.
 abbrev pub IsDataKind : DataKind → Type 0
 IsDataKind (kind.Gs1 parens) = Unit {0}
 IsDataKind (kind.Bytes eci) = IsKnownEci eci

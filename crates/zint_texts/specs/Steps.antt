@@ -13,6 +13,7 @@ abbrev pub Then : {A B : Type 0} → Step A → (A → Step B) → Step B
 Then {A} first second (Ok value) = (x : A) × first (Ok x) × second x (Ok value)
 Then {A} first second (Err refusal) = first (Err refusal) ⊎ ((x : A) × first (Ok x) × second x (Err refusal))
 
+-- A step and the one after it, written with a sign between the two.
 infixl 10 ◌>>=◌
 abbrev pub ◌>>=◌ : {A B : Type 0} → Step A → (A → Step B) → Step B
 first >>= second = Then first second

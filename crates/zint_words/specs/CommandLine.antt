@@ -16,6 +16,7 @@ use Rattle.zint_words.specs.declared.options.Takes.TheVariants.{Flag}
 use Rattle.zint_words.specs.declared.options.TheConstants.{OPTIONS, OPTION_NAMES}
 use Rattle.zint_words.specs.declared.symbology.Symbology.{Symbology}
 
+-- a row of the table: an option, its names, what it takes, and with which symbologies, data and other options it may be given
 pub record OptionRow : Type 0 where
   pub option : OptionName
   pub long : Text
@@ -37,6 +38,7 @@ option_rows = map (λ row. record {
   company = option_map (λ s. s.now) row.6;
 }) OPTIONS.now
 
+-- the row of an option
 unfoldable pub option_row : OptionName → OptionRow
 option_row n = slice_index_or option_rows (tag_of the_type n) (record {
   option = Barcode;
@@ -77,6 +79,7 @@ rule_for n = record (new_rule (long_name n)) {
   action = Some (action_for (taken_by n));
 }
 
+-- the command `zint` with the options of these rules, and with no subcommands
 abbrev pub app_with : List Rule → App
 app_with rules = record { top = record (new_shape (codes "zint")) { rules = rules }; subs = [] }
 

@@ -3,6 +3,7 @@ use Rattle.std.specs.Prelude.{ℕ, Bool, ◌==◌, Option, Some, None, if◌then
 use Rattle.std.specs.List.{after_first, before_first, list_any}
 use Rattle.clap.specs.Words.{Text}
 
+-- the byte is a comma
 abbrev pub is_comma : ℕ → Bool
 is_comma byte = byte == 44
 

@@ -37,6 +37,7 @@ abbrev pub carries_gs1_alone : Symbology → Bool
 carries_gs1_alone Gs1Code128 = true
 carries_gs1_alone _ = false
 
+-- the option that makes the data GS1 data, where one does
 unfoldable pub gs1_source_of : Values → Option OptionName
 gs1_source_of v = if not (suits option.Gs1 (symbology_of v)) then None
     else (if is_some (v option.Gs1) then Some option.Gs1
@@ -48,6 +49,7 @@ abbrev pub brackets_by : (round : Bool) → Gs1Brackets
 brackets_by true = Round
 brackets_by false = Square
 
+-- the brackets of the data, where it is GS1 data
 unfoldable pub gs1_of : Values → Option Gs1Brackets
 gs1_of v = option_map (λ source. brackets_by (is_some (v option.Gs1parens))) (gs1_source_of v)
 
@@ -73,6 +75,7 @@ given_number v n other = unwrap_or (option_and_then (number_taken (taken_by n)) 
 unfoldable pub share_of : Values → ℕ
 share_of v = slice_index SHARES (given_number v option.Secure 2 - 1)
 
+-- the version that is named, from 1 to the greatest one of the symbology
 unfoldable pub symbol_version_of : Values → Option ℕ
 symbol_version_of v = option_and_then (whole_number_in 1 (greatest_version (symbology_of v))) (v option.Vers)
 
@@ -84,6 +87,7 @@ paint_of v = record {
   vwhite = given_number v option.Vwhitesp 0;
 }
 
+-- the options of a drawing, all together
 unfoldable pub drawing_options_of : Values → DrawingOptions
 drawing_options_of v = record {
   symbology = symbology_of v;
@@ -111,5 +115,6 @@ abbrev pub has_check_version : Symbology → (version : Option ℕ) → Bool
 has_check_version Code39 version = is_some version
 has_check_version _ version = false
 
+-- the symbol has the check character of Code 39
 unfoldable pub check_character : DrawingOptions → Bool
 check_character o = has_check_version o.symbology o.version

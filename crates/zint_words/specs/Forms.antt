@@ -10,6 +10,7 @@ use Rattle.zint_words.specs.declared.form.Form.{Form}
 use Rattle.zint_words.specs.declared.form.Form.TheVariants.{Svg, Grid}
 use Rattle.zint_words.specs.declared.form.TheConstants.{FORMS, FORM_ROWS, LEFT_OUT}
 
+-- a row of the table: a form, the name that `--filetype` takes, and the ending of its files, where they have one
 pub record FormRow : Type 0 where
   pub form : Form
   pub name : Text
@@ -23,6 +24,7 @@ form_rows = map (λ row. record {
   ending = option_map (λ e. e.now) row.2;
 }) FORM_ROWS.now
 
+-- the row of a form
 unfoldable pub form_row : Form → FormRow
 form_row f = slice_index_or form_rows (tag_of the_type f)
     (record { form = Svg; name = []; ending = None })
@@ -43,6 +45,7 @@ ends_in ending name = ends_with nat_eq name ending
 unfoldable pub is_asked_by : Form → Text → Bool
 is_asked_by form name = option_map_or (λ ending. ends_in ending name) (form_row form).ending false
 
+-- the form that a file's name asks for by its ending, where it asks for one
 abbrev pub form_ending : Text → Option Form
 form_ending name = find (λ form. is_asked_by form name) FORMS.now
 

@@ -14,6 +14,7 @@ is_whole_number t = nat_lt 0 (length t) && nat_le (length t) 10 && list_all is_a
 unfoldable pub whole_number : Text → Option ℕ
 whole_number t = if is_whole_number t then Some (digits_value 10 t) else None
 
+-- the number, where it is from low to high
 abbrev pub kept_between : ℕ → ℕ → ℕ → Option ℕ
 kept_between low high n = if nat_le low n && nat_le n high then Some n else None
 
@@ -25,6 +26,7 @@ whole_number_in low high t = option_and_then (kept_between low high) (whole_numb
 unfoldable pub is_character_set : ℕ → Bool
 is_character_set n = list_any (λ set. set == n) CHARACTER_SETS
 
+-- the number, where it is the ECI number of a character set
 abbrev pub kept_character_set : ℕ → Option ℕ
 kept_character_set n = if is_character_set n then Some n else None
 

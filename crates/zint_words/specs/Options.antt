@@ -9,6 +9,7 @@ use Rattle.zint_words.specs.contracts.options.OptionName.{the_type}
 use Rattle.zint_words.specs.declared.options.OptionName.{OptionName}
 use Rattle.zint_words.specs.declared.symbology.Symbology.{Symbology}
 
+-- the symbology is in the list
 abbrev pub has_symbology : List Symbology → Symbology → Bool
 has_symbology symbologies s = list_any (λ other. is_same_symbology other s) symbologies
 
@@ -20,9 +21,11 @@ suits n s = option_map_or (λ suited. has_symbology suited s) (option_row n).sui
 unfoldable pub is_for_gs1 : OptionName → Bool
 is_for_gs1 n = (option_row n).is_for_gs1
 
+-- the two options are the same
 abbrev pub is_same_option : OptionName → OptionName → Bool
 is_same_option a b = sameb the_type a b
 
+-- the option is in the list
 abbrev pub has_option : List OptionName → OptionName → Bool
 has_option options n = list_any (λ other. is_same_option other n) options
 

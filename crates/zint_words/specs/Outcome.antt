@@ -9,6 +9,7 @@ use Rattle.zint_words.specs.Settings.{Request, request_by}
 use Rattle.zint_words.specs.declared.refusal.Refusal.{Refusal}
 use Rattle.zint_words.specs.declared.refusal.Refusal.TheVariants as refusal
 
+-- what comes of words: a refusal of all of them, the text of the rule that they break, or what they ask for
 pub data Outcome : Type 0 where
   usage : Outcome
   bad_option : Text → Outcome

@@ -20,6 +20,7 @@ pub record IsSetPlace (index count : ℕ) (id : Text) : Type 0 where
 abbrev pub is_identifier : Text → Bool
 is_identifier t = nat_lt 0 (length t) && nat_le (length t) 32 && list_all is_ascii_graphic t
 
+-- the parts at a comma are the count and an identifier; without a comma the text is the count, and the identifier is empty
 abbrev pub identified : Option (Text × Text) → Text → Option (Text × Text)
 identified None t = Some (t, [])
 identified (Some parts) t = if is_identifier parts.1 then Some parts else None

@@ -29,6 +29,7 @@ pub data MessageOrigin : Type 0 where
   from_text : Text → MessageOrigin
   from_input : Text → MessageOrigin
 
+-- the text of `--data`, where it is given, and else the input that `--input` names
 unfoldable pub origin_of : Values → MessageOrigin
 origin_of v = option_map_or from_text (v Data) (from_input (unwrap_or (v Input) []))
 
@@ -81,6 +82,7 @@ segment_given v n = option_and_then segment_in_text (v n)
 unfoldable pub segments_of : Values → List SegmentText
 segments_of v = filter_map (segment_given v) SEGMENT_OPTIONS.now
 
+-- the drawing that is asked for, by the values of the options
 unfoldable pub drawing_by : Values → DrawingRequest
 drawing_by v = record {
   origin = origin_of v;
@@ -90,9 +92,11 @@ drawing_by v = record {
   segments = segments_of v;
 }
 
+-- the reading that is asked for, by the values of the options
 unfoldable pub reading_by : Values → ReadingRequest
 reading_by v = record { input = unwrap_or (v Input) []; output = v Output; paint = paint_of v }
 
+-- the demonstration that is asked for, by the values of the options
 unfoldable pub demonstration_by : Values → DemonstrationRequest
 demonstration_by v = record { number = given_number v Demo 0; output = v Output }
 
@@ -106,12 +110,15 @@ abbrev pub origin_in : Origin → MessageOrigin
 origin_in (origin.Text t) = from_text t.now
 origin_in (origin.Input name) = from_input name.now
 
+-- a place in a structured append set, as the settings of the code hold it
 abbrev pub append_in : SetPlace → Append
 append_in place = record { index = place.index; count = place.count; id = place.id.now }
 
+-- a segment, as the settings of the code hold it
 abbrev pub segment_in : Segment → SegmentText
 segment_in segment = record { eci = segment.eci; text = segment.text.now }
 
+-- a drawing that is asked for, as the settings of the code hold it
 abbrev pub drawing_in : DrawingSettings → DrawingRequest
 drawing_in s = record {
   origin = origin_in s.origin;
@@ -121,12 +128,15 @@ drawing_in s = record {
   segments = map segment_in s.segments.items;
 }
 
+-- a reading that is asked for, as the settings of the code hold it
 abbrev pub reading_in : ReadingSettings → ReadingRequest
 reading_in s = record { input = s.input.now; output = option_map (λ t. t.now) s.output; paint = s.paint }
 
+-- a demonstration that is asked for, as the settings of the code hold it
 abbrev pub demonstration_in : DemonstrationSettings → DemonstrationRequest
 demonstration_in s = record { number = s.number; output = option_map (λ t. t.now) s.output }
 
+-- what is asked for, as the settings of the code hold it
 abbrev pub request_in : Settings → Request
 request_in (settings.Drawing s) = drawing (drawing_in s)
 request_in (settings.Reading s) = reading (reading_in s)

@@ -9,6 +9,7 @@ use Rattle.zint_words.specs.declared.symbology.Symbology.TheVariants.{Code39}
 use Rattle.zint_words.specs.declared.symbology.TheConstants.{SYMBOLOGIES, SYMBOLOGY_ROWS}
 use Rattle.zint_words.specs.Numbers.{whole_number}
 
+-- a row of the table: a symbology, its number, its name, and the greatest of its versions
 pub record SymbologyRow : Type 0 where
   pub symbology : Symbology
   pub number : ℕ
@@ -24,6 +25,7 @@ symbology_rows = map (λ row. record {
   greatest_version = row.3;
 }) SYMBOLOGY_ROWS.now
 
+-- the row of a symbology
 unfoldable pub symbology_row : Symbology → SymbologyRow
 symbology_row s = slice_index_or symbology_rows (tag_of the_type s)
     (record { symbology = Code39; number = 0; name = []; greatest_version = 0 })
@@ -32,6 +34,7 @@ symbology_row s = slice_index_or symbology_rows (tag_of the_type s)
 unfoldable pub symbology_number : Symbology → ℕ
 symbology_number s = (symbology_row s).number
 
+-- the name of the symbology
 unfoldable pub symbology_name : Symbology → Text
 symbology_name s = (symbology_row s).name
 
@@ -39,6 +42,7 @@ symbology_name s = (symbology_row s).name
 unfoldable pub greatest_version : Symbology → ℕ
 greatest_version s = (symbology_row s).greatest_version
 
+-- the two symbologies are the same
 abbrev pub is_same_symbology : Symbology → Symbology → Bool
 is_same_symbology a b = sameb the_type a b
 

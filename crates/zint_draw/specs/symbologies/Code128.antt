@@ -29,6 +29,7 @@ kind128_by (Some Round) binary = kind.Gs1 true
 kind128_by (Some Square) binary = kind.Gs1 false
 kind128_by None binary = if binary then kind.Bytes None else kind.Latin1
 
+-- What the data is, by the options of the drawing.
 abbrev pub kind128 : DrawingOptions → DataKind
 kind128 options = kind128_by options.gs1 options.binary
 

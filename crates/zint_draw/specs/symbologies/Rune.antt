@@ -22,6 +22,7 @@ unfoldable pub rune_number : (bytes : List ℕ) → Option ℕ
 rune_number bytes =
     if is_short_number bytes && nat_le (digits_value 10 bytes) 255 then Some (digits_value 10 bytes) else None
 
+-- the number, and else the refusal of data that is no such number
 abbrev pub number_or : Option ℕ → Result ℕ Refusal
 number_or (Some value) = Ok value
 number_or None = Err (BadData Number 0)
