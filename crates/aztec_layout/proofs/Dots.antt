@@ -1,14 +1,17 @@
 -- What the loops that draw have drawn so far: the first of their modules.
-use Rattle.std.proofs.Common.{◌≡◌, ℕ, ◌+◌, ◌-◌, ◌*◌, ◌<◌, ◌≤◌, Bool, true, false, List, Some, length, refl, ap, subst, sym, ◌∙◌, arith}
+use Rattle.std.proofs.Common.{◌≡◌, ◌≢◌, ℕ, ◌+◌, ◌-◌, ◌*◌, ◌%◌, ◌<◌, ◌≤◌, ⊎_elim, Bool, true, false, List, Some, length, refl, ap, subst, sym, ◌∙◌, arith}
 use Rattle.std.specs.Prelude.{IsTrue, slice_get}
+use Rattle.std.specs.Int.{abs_diff}
+use Rattle.std.proofs.lemmas.Bool.{cases_lt}
 use Rattle.std.proofs.lemmas.Option.{slice_get_within}
 use Rattle.bar_base.specs.Picture.{Picture, row_count}
-use Rattle.aztec_layout.specs.Core.{is_dark_fixed, mode_place}
+use Rattle.aztec_layout.specs.Core.{is_dark_fixed, mode_place, rim_of}
 use Rattle.aztec_layout.specs.Painting.{Paints}
 use Rattle.aztec_layout.specs.declared.sizes.Size.{Size}
 use Rattle.aztec_layout.specs.Places.{IsBitPlace, bits_before, pairs_on_side}
 use Rattle.aztec_layout.specs.SymbolGrid.{IsDataDot, IsLayerDot, IsModeDot}
-use Rattle.aztec_layout.proofs.PaintingLemmas.{Upto, paints_none, paints_same}
+use Rattle.aztec_layout.proofs.Bare.{bare_light}
+use Rattle.aztec_layout.proofs.PaintingLemmas.{Upto, paints_begin, paints_none, paints_same}
 use Rattle.aztec_layout.proofs.Spots.{SamePlace, place_only}
 
 -- the dark fixed module in column `column` of row y
@@ -19,11 +22,35 @@ FixedDot full centre y column a b = (is_dark_fixed full centre column y ≡ true
 abbrev pub FixedRow : (full : Bool) (centre row a b : ℕ) → Type 0
 FixedRow full centre row a b = (b ≡ row) × IsTrue (is_dark_fixed full centre a b)
 
-pub fixed_row_done : (full : Bool) (centre y n : ℕ) (g h : Picture) → g.width ≡ n → Paints g h (Upto (FixedDot full centre y) n) →
+pub fixed_row_done : (full : Bool) (centre y n : ℕ) (g h : Picture) → g.width ≤ n → Paints g h (Upto (FixedDot full centre y) n) →
     Paints g h (FixedRow full centre y)
 fixed_row_done full centre y n g h wide p = paints_same g h (Upto (FixedDot full centre y) n) (FixedRow full centre y) p
     (λ a b in_a in_b q. (q.2.2, ap (λ (t : ℕ). is_dark_fixed full centre a t) q.2.2 ∙ ap (λ (t : ℕ). is_dark_fixed full centre t y) q.2.1 ∙ q.2.0))
-    (λ a b in_a in_b q. (a, subst (λ (w : ℕ). a < w) wide in_a, (ap (λ (t : ℕ). is_dark_fixed full centre a t) (sym q.0) ∙ q.1, refl, q.0)))
+    (λ a b in_a in_b q. (a, (let e : a < n = omega (arith, in_a) in e), (ap (λ (t : ℕ). is_dark_fixed full centre a t) (sym q.0) ∙ q.1, refl, q.0)))
+
+-- where nothing is dark from a column to another, the modules up to the first are those up to the other
+fixed_up_to : (full : Bool) (centre y n m : ℕ) (g h : Picture) → n ≤ m → ((i : ℕ) → n ≤ i → i < m → is_dark_fixed full centre i y ≡ false) →
+    Paints g h (Upto (FixedDot full centre y) n) → Paints g h (Upto (FixedDot full centre y) m)
+fixed_up_to full centre y n m g h le light p = paints_same g h (Upto (FixedDot full centre y) n) (Upto (FixedDot full centre y) m) p
+    (λ a b in_a in_b q. let below : q.0 < n = q.1 in (q.0, (let e : q.0 < m = omega arith in e), q.2))
+    (λ a b in_a in_b q. ⊎_elim
+    (λ below. (q.0, below, q.2))
+    (λ past. absurd (let no : is_dark_fixed full centre q.0 y ≡ false = light q.0 past q.1 in let yes : is_dark_fixed full centre q.0 y ≡ true = q.2.0 in cc))
+    (cases_lt q.0 n))
+
+-- the first line that crosses a row off all lines
+pub crossings_begin : (full : Bool) (centre y : ℕ) (g : Picture) → rim_of full ≤ centre → abs_diff y centre % 16 ≢ 0 → 7 < abs_diff y centre →
+    Paints g g (Upto (FixedDot full centre y) (centre % 16))
+crossings_begin full centre y g room off outside = fixed_up_to full centre y 0 (centre % 16) g g (omega arith)
+    (λ i from below. bare_light full centre i y room (record { column = (λ e. omega (arith, e, below)); row = off; outside = omega (arith, outside) }))
+    (paints_begin g (FixedDot full centre y))
+
+-- from one line to the next
+pub crossings_next : (full : Bool) (centre y x : ℕ) (g h : Picture) → rim_of full ≤ centre → abs_diff y centre % 16 ≢ 0 → 7 < abs_diff y centre → x % 16 ≡ centre % 16 →
+    Paints g h (Upto (FixedDot full centre y) (x + 1)) → Paints g h (Upto (FixedDot full centre y) (x + 16))
+crossings_next full centre y x g h room off outside line p = fixed_up_to full centre y (x + 1) (x + 16) g h (omega arith)
+    (λ i from below. bare_light full centre i y room (record { column = (λ e. omega (arith, e, from, below, line)); row = off; outside = omega (arith, outside) }))
+    p
 
 pub fixed_done : (full : Bool) (centre n : ℕ) (g h : Picture) → row_count g ≡ n → Paints g h (Upto (FixedRow full centre) n) →
     Paints g h (λ x y. IsTrue (is_dark_fixed full centre x y))

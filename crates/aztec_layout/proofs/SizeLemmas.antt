@@ -44,7 +44,7 @@ pub same_size : (s t : Size) → s.full ≡ t.full → side_of s ≡ side_of t �
 same_size s t = same_size_at s.full s.layers t.layers t.full
 
 -- What a size holds, it has as codewords, and a compact one holds at most 64.
-holds_few_at : (f : Bool) (n share held : ℕ) → held ≤ holds_of (size_at f n) share → held ≤ codewords_of (size_at f n)
+pub holds_few_at : (f : Bool) (n share held : ℕ) → held ≤ holds_of (size_at f n) share → held ≤ codewords_of (size_at f n)
 holds_few_at true n share held h = omega (arith, h)
 holds_few_at false n share held h = omega (arith, h)
 

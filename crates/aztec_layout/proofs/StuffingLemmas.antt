@@ -1,6 +1,7 @@
 -- Stuffed codewords: the bits that they stand for tell them, and going from the left makes the shortest list.
-use Rattle.std.proofs.Common.{◌≡◌, ℕ, ◌+◌, ◌-◌, ◌/◌, ◌%◌, ◌^◌, ◌<◌, ◌≤◌, Bool, true, false, List, [], ◌∷◌, ◌++◌, length, take, drop, get_or, cond, Some, zero, suc, refl, ap, subst, sym, ◌∙◌, append_assoc, append-nil, ⊎_elim, arith}
+use Rattle.std.proofs.Common.{◌≡◌, ℕ, ◌+◌, ◌-◌, ◌*◌, ◌/◌, ◌%◌, ◌^◌, ◌<◌, ◌≤◌, Bool, true, false, List, [], ◌∷◌, ◌++◌, length, take, drop, get_or, cond, Some, zero, suc, refl, ap, subst, sym, ◌∙◌, append_assoc, append-nil, ⊎_elim, arith}
 use Rattle.std.specs.Prelude.{◌==◌, ◌||◌, All, replicate}
+use Rattle.std.proofs.Math.Nat.{mul-le-mul_left}
 use Rattle.std.proofs.Math.Seq.{take-add, take-append-add}
 use Rattle.std.proofs.lemmas.Bool.{cases_lt}
 use Rattle.std.proofs.lemmas.List.{get_or-append_right, get_or_append_left, get_or_default, get_or-drop, length-drop, get_or-replicate, get_or_past, length-append, length-replicate, length-take-le, take-take, take_at, replicate-append-replicate, take-append-drop, take-replicate}
@@ -11,6 +12,7 @@ use Rattle.std.specs.List.{slice_get}
 use Rattle.std.proofs.lemmas.Option.{get_or_from_slice_get, slice_get_within}
 use Rattle.bar_base.specs.Bits.{to_bits}
 use Rattle.bar_base.proofs.ListLemmas.{take_next}
+use Rattle.aztec_layout.specs.Smallest.{CountsUpTo}
 use Rattle.aztec_layout.specs.Stuffing.{CountsStuffed, IsFirstBad, IsStuffed, IsWord, Carries, with_ones, is_alike, taken, unstuffed}
 use Rattle.bar_base.proofs.NumberBits.{SameNumber, length-to_bits, to_bits-half, to_bits_once}
 
@@ -166,6 +168,40 @@ length-taken_at false width word = length-to_bits width word
 pub length-taken : (width word : ℕ) (alike : Bool) → alike ≡ is_alike width word → length (taken width word) ≡ cond alike (width - 1) width
 length-taken width word alike is =
     length-taken_at (is_alike width word) width word ∙ ap (λ (a : Bool). cond a (width - 1) width) (sym is)
+
+taken_few : (alike : Bool) (width : ℕ) → cond alike (width - 1) width ≤ width
+taken_few true width = omega arith
+taken_few false width = omega arith
+
+length-unstuffed : (width : ℕ) (words : List ℕ) → length (unstuffed width words) ≤ width * length words
+length-unstuffed width [] = omega arith
+length-unstuffed width (w ∷ ws) =
+    let first : length (taken width w) ≡ cond (is_alike width w) (width - 1) width = length-taken width w (is_alike width w) refl in
+    let rest : length (unstuffed width ws) ≤ width * length ws = length-unstuffed width ws in
+    let whole : length (taken width w ++ unstuffed width ws) ≡ length (taken width w) + length (unstuffed width ws) =
+    length-append (taken width w) (unstuffed width ws) in
+    omega (arith, first, rest, whole, taken_few (is_alike width w) width)
+
+-- more bits than so many codewords can carry need more codewords
+many_stuffed : (width : ℕ) (bits : List Bool) (most : ℕ) (words : List ℕ) → width * most < length bits → IsStuffed width bits words → most < length words
+many_stuffed width bits most words many stuffed = ⊎_elim (λ h. h)
+    (λ h. let le : width * length words ≤ width * most = mul-le-mul_left width h in
+    let carried : length (bits ++ replicate stuffed.carried.ones true) ≤ width * length words =
+    subst (λ (s : List Bool). length s ≤ width * length words) stuffed.carried.whole (length-unstuffed width words) in
+    absurd (omega (arith, le, carried, many, length-append bits (replicate stuffed.carried.ones true))))
+    (cases_lt most (length words))
+
+pub up_to_past : (width : ℕ) (bits : List Bool) (most : ℕ) → width * most < length bits → CountsUpTo width bits most (most + 1)
+up_to_past width bits most many = record {
+  exact = λ h. absurd (omega (arith, h));
+  more = λ h words stuffed. many_stuffed width bits most words many stuffed;
+}
+
+pub up_to_counted : (width : ℕ) (bits : List Bool) (most count : ℕ) → CountsStuffed width bits count → CountsUpTo width bits most count
+up_to_counted width bits most count counts = record {
+  exact = λ h. counts;
+  more = λ h words stuffed. let only : length words ≡ count = counts.only words stuffed in omega (arith, h, only);
+}
 
 -- a bit of the filled bits is a bit, or a one past the last
 pub filled_bit : (width : ℕ) (bits : List Bool) (at : ℕ) (bit : Bool) → bit ≡ get_or bits at true → at < length bits + width →

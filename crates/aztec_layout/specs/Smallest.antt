@@ -1,5 +1,5 @@
 -- The smallest allowed size that holds a message, by the numbers of its codewords and by its bits.
-use Rattle.std.specs.Prelude.{◌≡◌, ℕ, ◌+◌, ◌-◌, ◌*◌, ◌≤◌, ◌==◌, min, nat_le, Bool, List, Option, Some, None, length, if◌then◌else◌}
+use Rattle.std.specs.Prelude.{◌≡◌, ℕ, ◌+◌, ◌-◌, ◌*◌, ◌<◌, ◌≤◌, ◌==◌, min, nat_le, Bool, List, Option, Some, None, length, if◌then◌else◌}
 use Rattle.aztec_layout.specs.declared.sizes.Size.{Size}
 use Rattle.aztec_layout.specs.declared.allowed.Allowed.{Allowed}
 use Rattle.aztec_layout.specs.declared.fitting.Needs.{Needs}
@@ -14,6 +14,18 @@ pub record AreNeeds (bits : List Bool) (needs : Needs) : Type 0 where
   pub w8 : CountsStuffed 8 bits needs.w8
   pub w10 : CountsStuffed 10 bits needs.w10
   pub w12 : CountsStuffed 12 bits needs.w12
+
+-- A number that tells whether stuffed codewords are at most so many (`most`): their number if they are, else a number above that.
+pub record CountsUpTo (width : ℕ) (bits : List Bool) (most count : ℕ) : Type 0 where
+  pub exact : count ≤ most → CountsStuffed width bits count
+  pub more : most < count → (words : List ℕ) → IsStuffed width bits words → most < length words
+
+-- Such numbers at the four widths, up to the codewords of the largest size of each width, of 2, 8, 22 and 32 layers.
+pub record AreBoundedNeeds (bits : List Bool) (needs : Needs) : Type 0 where
+  pub w6 : CountsUpTo 6 bits 48 needs.w6
+  pub w8 : CountsUpTo 8 bits 240 needs.w8
+  pub w10 : CountsUpTo 10 bits 1020 needs.w10
+  pub w12 : CountsUpTo 12 bits 1664 needs.w12
 
 -- The codewords that data needs at the width of a size.
 abbrev pub needed_at : Needs → Size → ℕ

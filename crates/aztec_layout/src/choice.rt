@@ -15,12 +15,12 @@ pub struct NoFit {
 
 ghost use Rattle.aztec_layout.specs.Allowed.{CanBeAsked, IsLast, counted_share};
 ghost use Rattle.aztec_layout.specs.Sizes.{holds_of};
-ghost use Rattle.aztec_layout.specs.Smallest.{HasNoFit, IsSmallest, needed_at};
+ghost use Rattle.aztec_layout.specs.Smallest.{HasNoFit, IsSmallest, Takes};
 
 use crate::allowed::Allowed;
-use crate::counting::needs;
-use crate::fitting::{Needs, first_size, needed};
-use crate::sizes::holds;
+use crate::counting::{bounded_needs, count};
+use crate::fitting::first_size;
+use crate::sizes::{holds, width};
 use bar_base::Bits;
 
 /// The first allowed size, by side and compact before full, that holds the stuffed codewords of
@@ -32,23 +32,23 @@ pub fn fit(bits: &Bits, allowed: Allowed) -> Result<Size, NoFit>
     ensures smallest { IfOk result (IsSmallest bits.now allowed) }
     ensures none { IfErr result (HasNoFit bits.now allowed) }
 {
-    let needs = needs(bits);
-    match first_size(needs, allowed) {
+    match first_size(bounded_needs(bits), allowed) {
         Some(size) => Ok(size),
-        None => Err(no_fit(needs, allowed)),
+        None => Err(no_fit(bits, allowed)),
     }
 }
 
 /// What the last allowed size needs and holds.
-fn no_fit(needs: Needs, allowed: Allowed) -> NoFit
-    requires { CanBeAsked allowed }
+fn no_fit(bits: &Bits, allowed: Allowed) -> NoFit
+    requires few { length bits.now < 1000000 }
+    requires can_be_asked { CanBeAsked allowed }
     ensures last { IsLast allowed result.last }
-    ensures needed { result.needed ≡ needed_at needs result.last }
+    ensures takes { Takes bits.now result.last result.needed }
     ensures held { result.held ≡ holds_of result.last (counted_share allowed) }
 {
     let last = allowed.last();
     NoFit {
-        needed: needed(needs, last),
+        needed: count(bits, width(last)),
         last,
         held: holds(last, allowed.share()),
     }

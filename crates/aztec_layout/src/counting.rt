@@ -1,5 +1,5 @@
-ghost use Rattle.std.specs.Prelude.{◌≡◌, ◌<◌, length};
-ghost use Rattle.aztec_layout.specs.Smallest.{AreNeeds};
+ghost use Rattle.std.specs.Prelude.{◌≡◌, ◌<◌, ◌≤◌, length};
+ghost use Rattle.aztec_layout.specs.Smallest.{AreBoundedNeeds, AreNeeds, CountsUpTo};
 ghost use Rattle.aztec_layout.specs.Stuffing.{CountsStuffed, IsWidth};
 
 use crate::fitting::Needs;
@@ -20,8 +20,36 @@ pub fn needs(bits: &Bits) -> Needs
     }
 }
 
+/// The same where they are at most as many as the largest size of their width has, else larger numbers, for which
+/// nothing is counted.
+pub(crate) fn bounded_needs(bits: &Bits) -> Needs
+    requires { length bits.now < 1000000 }
+    ensures { AreBoundedNeeds bits.now result }
+{
+    Needs {
+        w6: count_up_to(bits, 6, 48),
+        w8: count_up_to(bits, 8, 240),
+        w10: count_up_to(bits, 10, 1020),
+        w12: count_up_to(bits, 12, 1664),
+    }
+}
+
+/// The number of stuffed codewords at a width, or one more than `most` where the bits are too many for so few.
+fn count_up_to(bits: &Bits, width: u32, most: u32) -> u32
+    requires wide { IsWidth width }
+    requires few { length bits.now < 1000000 }
+    requires most { most ≤ 1664 }
+    ensures { CountsUpTo width bits.now most result }
+{
+    if bits.len() > width as usize * most as usize {
+        most + 1
+    } else {
+        count(bits, width)
+    }
+}
+
 /// The number of stuffed codewords at a width.
-fn count(bits: &Bits, width: u32) -> u32
+pub(crate) fn count(bits: &Bits, width: u32) -> u32
     requires wide { IsWidth width }
     requires few { length bits.now < 1000000 }
     ensures { CountsStuffed width bits.now result }

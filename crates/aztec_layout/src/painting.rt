@@ -1,4 +1,5 @@
-ghost use Rattle.std.specs.Prelude.{◌≡◌, ℕ, ◌+◌, ◌*◌, ◌^◌, ◌<◌, ◌≤◌, true, IsTrue, length};
+ghost use Rattle.std.specs.Prelude.{◌≡◌, ◌≢◌, ℕ, ◌+◌, ◌*◌, ◌%◌, ◌^◌, ◌<◌, ◌≤◌, true, IsTrue, length};
+ghost use Rattle.std.specs.Int.{abs_diff};
 ghost use Rattle.bar_base.specs.Picture.{row_count};
 ghost use Rattle.aztec_layout.specs.Core.{is_dark_fixed as is_dark_fixed_at, mode_run as mode_run_of, rim_of};
 ghost use Rattle.aztec_layout.specs.Painting.{Paints};
@@ -37,8 +38,39 @@ fn draw_fixed_row(grid: &mut Grid, full: bool, centre: u32, y: u32)
     requires row { y < row_count grid.old }
     ensures { Paints grid.old grid.new (λ a b. (b ≡ y) × IsTrue (is_dark_fixed_at full centre a b)) }
 {
+    let down = y.abs_diff(centre);
+    if down % 16 != 0 && down > 7 {
+        draw_crossings(grid, full, centre, y);
+    } else {
+        draw_whole_row(grid, full, centre, y);
+    }
+}
+
+/// Draws those of one row, with a look at each module.
+fn draw_whole_row(grid: &mut Grid, full: bool, centre: u32, y: u32)
+    requires room { rim_of full ≤ centre }
+    requires fits { centre < 2 ^ 31 }
+    requires row { y < row_count grid.old }
+    ensures { Paints grid.old grid.new (λ a b. (b ≡ y) × IsTrue (is_dark_fixed_at full centre a b)) }
+{
     for x in 0..grid.width() {
         dot(grid, x, y, is_dark_fixed(full, centre, x, y));
+    }
+}
+
+/// Draws those of a row outside each core and off each line of the reference grid: only where lines cross it.
+fn draw_crossings(grid: &mut Grid, full: bool, centre: u32, y: u32)
+    requires room { rim_of full ≤ centre }
+    requires fits { centre < 2 ^ 31 }
+    requires row { y < row_count grid.old }
+    requires off_line { abs_diff y centre % 16 ≢ 0 }
+    requires outside { 7 < abs_diff y centre }
+    ensures { Paints grid.old grid.new (λ a b. (b ≡ y) × IsTrue (is_dark_fixed_at full centre a b)) }
+{
+    let mut x = centre % 16;
+    while x < grid.width() {
+        dot(grid, x, y, is_dark_fixed(full, centre, x, y));
+        x += 16;
     }
 }
 

@@ -43,6 +43,36 @@ fn number_at(bits: &Bits, at: usize, width: u32) -> u16
     ensures below { result < 2 ^ width }
     ensures here { to_bits width result ≡ take width (drop at (with_ones width bits.now)) }
 {
+    let items = bits.as_slice();
+    let end = at + width as usize;
+    if end <= items.len() {
+        number_of(&items[at..end])
+    } else {
+        number_past(bits, at, width)
+    }
+}
+
+/// The number in bits, without a test at each.
+fn number_of(bits: &[bool]) -> u16
+    requires few { length bits.now ≤ 12 }
+    ensures below { result < 2 ^ length bits.now }
+    ensures here { to_bits (length bits.now) result ≡ bits.now }
+{
+    let mut number = 0;
+    for bit in bits {
+        number = number * 2 + u16::from(*bit);
+    }
+    number
+}
+
+/// The number in the bits from place `at` on, with ones behind the last, where a codeword goes past it.
+fn number_past(bits: &Bits, at: usize, width: u32) -> u16
+    requires wide { IsWidth width }
+    requires inside { at < length bits.now }
+    requires small { at < 2 ^ 63 }
+    ensures below { result < 2 ^ width }
+    ensures here { to_bits width result ≡ take width (drop at (with_ones width bits.now)) }
+{
     let mut number = 0;
     for i in 0..width {
         number = number * 2 + u16::from(bit_or_one(bits, at + i as usize));

@@ -2,7 +2,7 @@ use Rattle.std.proofs.Common.{◌≡◌, Bool, true, subst}
 use Rattle.aztec_layout.specs.Painting.{Paints}
 use Rattle.aztec_layout.proofs.Dots.{FixedDot}
 use Rattle.aztec_layout.proofs.PaintingLemmas.{paints_next}
-use Rattle.aztec_layout.proofs.painting.draw_fixed_row.Goals as goal
+use Rattle.aztec_layout.proofs.painting.draw_whole_row.Goals as goal
 
 pub loop-x-preserved : goal.loop-x-preserved
 loop-x-preserved c =

@@ -2,7 +2,7 @@ use Rattle.std.proofs.Common.{drop, arith}
 use Rattle.aztec_layout.specs.Stuffing.{with_ones}
 use Rattle.aztec_layout.proofs.BitLemmas.{number_more, number_none}
 use Rattle.aztec_layout.proofs.StuffingLemmas.{filled_bit_from, length-filled_from}
-use Rattle.aztec_layout.proofs.stuffing.number_at.Goals as goal
+use Rattle.aztec_layout.proofs.stuffing.number_past.Goals as goal
 
 pub loop-i-init : goal.loop-i-init
 loop-i-init c = number_none (drop c.args.at (with_ones c.args.width c.args.bits.now))

@@ -1,0 +1,11 @@
+use Rattle.std.proofs.Common.{◌≡◌, ◌-◌, ◌%◌}
+use Rattle.aztec_layout.specs.Painting.{Paints}
+use Rattle.aztec_layout.proofs.Dots.{FixedDot}
+use Rattle.aztec_layout.proofs.PaintingLemmas.{Upto}
+use Rattle.aztec_layout.proofs.painting.draw_crossings.Given as goal
+
+abbrev pub invariant-loop-x : goal.invariant-loop-x
+invariant-loop-x l = Paints l.initial.grid l.grid (Upto (FixedDot l.full l.centre l.y) l.x) × (l.x % 16 ≡ l.centre % 16)
+
+abbrev pub decreases-loop-x : goal.decreases-loop-x
+decreases-loop-x l = l.initial.grid.width - l.x
