@@ -215,12 +215,12 @@ drawn_path-spells append es path (codes, bits, apart, first) = (
   subst (λ (cs : List Code). Spells Upper cs (if append then append_mark ++ bits else bits) es) (sym apart) (before_spelling append es codes bits first.spells),
 )
 
-marked_drawn : (append : Bool) (es : List Element) (codes : List Code) (bits : List Bool) → IsFirst Upper es codes bits
+pub marked_drawn : (append : Bool) (es : List Element) (codes : List Code) (bits : List Bool) → IsFirst Upper es codes bits
     → IsDrawn append es (if append then append_mark ++ bits else bits)
 marked_drawn false es codes bits first = drawn_alone es codes bits first
 marked_drawn true es codes bits first = drawn_in_set es codes bits first
 
-marked_few : (append : Bool) (bits : List Bool) → length (if append then append_mark ++ bits else bits) ≤ length bits + 10
+pub marked_few : (append : Bool) (bits : List Bool) → length (if append then append_mark ++ bits else bits) ≤ length bits + 10
 unfolding append_mark
 marked_few false bits = omega arith
 marked_few true bits = omega (arith, length-append append_mark bits)

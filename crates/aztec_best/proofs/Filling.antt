@@ -67,12 +67,12 @@ pub record IsFilledTo (table : List Costs) (shorts longs : List Lows) (es : List
   pub filled : IsFilledFrom table es place
   pub counted : bytes ≡ bytes_ahead (drop place es)
   pub shorts_room : length shorts ≡ 31
-  pub longs_room : length longs ≡ 2048
+  pub longs_room : min (length es) 2048 ≤ length longs
   pub in_short : 1 ≤ bytes → IsWindow table shorts (place + 1) (place + min bytes 31) short
   pub in_long : 31 ≤ bytes → IsWindow table longs (place + 31) (place + min bytes 2078) long
 
 pub filled_to_end : (table : List Costs) (shorts longs : List Lows) (es : List Element) (place : ℕ) (short long : Window) → place ≡ length es → length es < length table
-    → length shorts ≡ 31 → length longs ≡ 2048 → length es ≤ 8192 → IsFilledTo (set table place no_costs) shorts longs es place 0 short long
+    → length shorts ≡ 31 → min (length es) 2048 ≤ length longs → length es ≤ 8192 → IsFilledTo (set table place no_costs) shorts longs es place 0 short long
 filled_to_end table shorts longs es place short long is room short_room long_room fits =
     subst (λ (p : ℕ). IsFilledTo (set table p no_costs) shorts longs es p 0 short long) (sym is)
     (record {
@@ -128,7 +128,7 @@ next_long table shorts longs es place bytes next short long to some is more =
     next_window table longs place bytes next 31 2078 long some (bytes_next es place bytes next some to.counted is (omega arith)) to.in_long more
 
 pub filled_to_step : (table : List Costs) (shorts longs : List Lows) (es : List Element) (place next : ℕ) (short long : Window) (new : Costs)
-    → length es < length table → IsFilledFrom table es (place + 1) → place < length es → length shorts ≡ 31 → length longs ≡ 2048
+    → length es < length table → IsFilledFrom table es (place + 1) → place < length es → length shorts ≡ 31 → min (length es) 2048 ≤ length longs
     → next ≡ bytes_ahead (drop place es) → (1 ≤ next → IsWindow table shorts (place + 1) (place + min next 31) short)
     → (31 ≤ next → IsWindow table longs (place + 31) (place + min next 2078) long)
     → ((m : Mode) → IsLeast m (drop place es) (mode_cost new m)) → new.bytes ≡ next

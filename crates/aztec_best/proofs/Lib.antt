@@ -18,3 +18,4 @@ pub mod FlagPicks
 pub mod ControlPicks
 pub mod RunPicks
 pub mod Drawing
+pub mod DrawnBits

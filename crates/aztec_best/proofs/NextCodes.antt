@@ -190,10 +190,10 @@ module _ (table : List Costs) (es : List Element) (filled : IsFilledFrom table e
       ]
 
   -- The first code and the first spelling of the rest make the first spelling of the whole
-  pub next_first : (place : ℕ) (m : Mode) (code : Code) → place < length es → IsFirstCheapest table es place m code → (codes : List Code) (more : List Bool)
-      → IsFirst (code_next m code) (drop (place + code_count m code) es) codes more → (bits : List Bool) × IsFirst m (drop place es) (code ∷ codes) bits
+  pub first_by : (place : ℕ) (m : Mode) (code : Code) → place < length es → (next : IsFirstCheapest table es place m code) → (codes : List Code) (more : List Bool)
+      → IsFirst (code_next m code) (drop (place + code_count m code) es) codes more → IsFirst m (drop place es) (code ∷ codes) (next.cheapest.front.bits ++ more)
   unfolding cost_through
-  next_first place m code within next codes more is_first =
+  first_by place m code within next codes more is_first =
       let stands : SpellsFront m code (drop place es) = next.cheapest.front in
       let after : IsFirst (code_next m code) stands.rest codes more =
       subst (λ (xs : List Element). IsFirst (code_next m code) xs codes more) (sym (rest_is es stands.rest place stands.entry stands.splits)) is_first in
@@ -204,11 +204,13 @@ module _ (table : List Costs) (es : List Element) (filled : IsFilledFrom table e
         entry_len stands.entry,
         next.cheapest.fewest,
         first_least (place + code_count m code) (code_next m code) codes more (stands_within m code es place stands (omega arith)) is_first,
-      ) in (
-        stands.bits ++ more,
-        record {
-          spells = subst (λ (xs : List Element). Spells m (code ∷ codes) (stands.bits ++ more) xs) (sym stands.splits) (onward (stands_entry stands) after.spells);
-          first = λ others (codes', spells').
-              next_all place m code stands.rest codes more next within (stands_entry stands) stands.splits after counted spells' refl;
-        },
-      )
+      ) in record {
+        spells = subst (λ (xs : List Element). Spells m (code ∷ codes) (stands.bits ++ more) xs) (sym stands.splits) (onward (stands_entry stands) after.spells);
+        first = λ others (codes', spells').
+            next_all place m code stands.rest codes more next within (stands_entry stands) stands.splits after counted spells' refl;
+      }
+
+  -- the same with some bits
+  pub next_first : (place : ℕ) (m : Mode) (code : Code) → place < length es → IsFirstCheapest table es place m code → (codes : List Code) (more : List Bool)
+      → IsFirst (code_next m code) (drop (place + code_count m code) es) codes more → (bits : List Bool) × IsFirst m (drop place es) (code ∷ codes) bits
+  next_first place m code within next codes more is_first = (next.cheapest.front.bits ++ more, first_by place m code within next codes more is_first)

@@ -41,7 +41,8 @@ impl Model for Bench {
       costs : length b.costs.items ≤ MOST_ELEMENTS + 1;
       reserved : MOST_ELEMENTS + 1 ≤ vec_capacity b.costs;
       shorts : length b.shorts.items ≡ 31;
-      longs : length b.longs.items ≡ 2048;
+      longs : length b.longs.items ≤ 2048;
+      longs_reserved : 2048 ≤ vec_capacity b.longs;
     } };
 }
 
@@ -53,7 +54,7 @@ impl Bench {
     {
         let costs = listed(Vec::with_capacity(alloc, PLACES))?;
         let shorts = listed(vec![in alloc; NO_LOWS; SHORT_RUNS])?;
-        let longs = listed(vec![in alloc; NO_LOWS; LONG_RUNS])?;
+        let longs = listed(Vec::with_capacity(alloc, LONG_RUNS))?;
         Ok(Bench {
             costs,
             shorts,
@@ -89,6 +90,23 @@ fn make_rows(costs: &mut Vec<Costs>, count: usize)
     }
 }
 
+/// Makes so many rows of least numbers, for which there is room. A short message touches no more of the list than it needs.
+fn make_lows(longs: &mut Vec<Lows>, count: usize)
+    requires few { count ≤ 2048 }
+    requires shorter { length longs.old.items ≤ 2048 }
+    requires reserved { 2048 ≤ vec_capacity longs.old }
+    ensures made { count ≤ length longs.new.items }
+    ensures shorter { length longs.new.items ≤ 2048 }
+    ensures reserved { 2048 ≤ vec_capacity longs.new }
+{
+    while longs.len() < count {
+        match longs.push(NO_LOWS) {
+            Ok(()) => {}
+            Err(_) => unreachable!(),
+        }
+    }
+}
+
 /// The fewest bits of any spelling of the elements from Upper mode on, over all codes, latches and binary runs. Afterwards the bench is
 /// filled for these elements. It takes no memory.
 pub fn shortest(bench: &mut Bench, elements: &Elements) -> u64
@@ -97,6 +115,7 @@ pub fn shortest(bench: &mut Bench, elements: &Elements) -> u64
     ensures filled { IsFilled bench.new elements.now }
 {
     make_rows(&mut bench.costs, elements.len() + 1);
+    make_lows(&mut bench.longs, elements.len().min(LONG_RUNS));
     fill(
         &mut bench.costs,
         &mut bench.shorts,

@@ -2,14 +2,14 @@ ghost use Rattle.std.specs.Prelude.{◌≡◌, ◌<◌, ◌≤◌, ◌+◌, ◌*
 ghost use Rattle.aztec_modes.specs.Entry.{code_count, code_next};
 ghost use Rattle.aztec_best.specs.Bench.{IsFilledFrom};
 ghost use Rattle.aztec_best.specs.Shortest.{IsDrawn, IsFewest};
-ghost use Rattle.aztec_best.specs.DrawnPath.{mark_codes, IsDrawnPath};
+ghost use Rattle.aztec_best.specs.DrawnPath.{mark_bits};
 
 use crate::bench::{Bench, rows, shortest};
 use crate::costs::Costs;
 use crate::limit::MOST_ELEMENTS;
 use crate::pick::next_code;
 use crate::stand::Stand;
-use aztec_modes::{Code, Mode, Path, code_count, code_next, spell};
+use aztec_modes::{Code, Mode, code_count, code_next, push_code};
 use bar_base::{Bits, Elements, NoMemory};
 use std::alloc::Global;
 
@@ -25,42 +25,45 @@ fn stand_after(at: Stand, code: Code) -> Stand
     }
 }
 
-/// The codes before those of the elements: M/L and U/L in a structured append set, none outside one.
-#[tactic(auto, unfolding(crate::specs::DrawnPath::mark_codes))]
-fn path_before(alloc: Global, append: bool) -> Result<Path, NoMemory>
-    ensures { IfOk result (λ path. path ≡ mark_codes append) }
+/// The bits before those of the elements: M/L and U/L in a structured append set, none outside one.
+#[tactic(auto, unfolding(crate::specs::DrawnPath::mark_bits))]
+fn bits_before(alloc: Global, append: bool) -> Result<Bits, NoMemory>
+    ensures { IfOk result (λ bits. bits ≡ mark_bits append) }
 {
-    let mut path = Path::new(alloc);
+    let mut bits = Bits::new(alloc);
     if !append {
-        return Ok(path);
+        return Ok(bits);
     }
-    path.push(Code::Latch(Mode::Mixed))?;
-    path.push(Code::Latch(Mode::Upper))?;
-    Ok(path)
+    push_code(&mut bits, Mode::Upper, Code::Latch(Mode::Mixed), &[])?;
+    push_code(&mut bits, Mode::Mixed, Code::Latch(Mode::Upper), &[])?;
+    Ok(bits)
 }
 
-/// The codes of the drawn bits.
-fn drawn_path(
+/// The drawn bits, put down code by code.
+fn drawn_bits(
     alloc: Global,
     costs: &[Costs],
     append: bool,
     elements: &Elements,
-) -> Result<Path, NoMemory>
+) -> Result<Bits, NoMemory>
     requires { IsFilledFrom costs.now elements.now 0 }
-    ensures { IfOk result (λ path. IsDrawnPath append elements.now path) }
+    ensures drawn { IfOk result (λ bits. IsDrawn append elements.now bits) }
+    ensures bounded { IfOk result (λ bits. length bits ≤ 37 * length elements.now + 10) }
 {
-    let length = elements.len();
-    let mut path = path_before(alloc, append)?;
+    let items = elements.as_slice();
+    let mut bits = bits_before(alloc, append)?;
     let mut at = Stand {
         mode: Mode::Upper,
         place: 0,
     };
-    while (at.place as usize) < length {
+    while (at.place as usize) < items.len() {
         let code = next_code(costs, elements, at);
-        path.push(code)?;
-        at = stand_after(at, code);
+        let after = stand_after(at, code);
+        let spelled = &items[at.place as usize..after.place as usize];
+        push_code(&mut bits, at.mode, code, spelled)?;
+        at = after;
     }
-    Ok(path)
+    Ok(bits)
 }
 
 /// The drawn bits of a message with these elements: of all its spellings the one with fewest bits, and of those the one whose bits come
@@ -81,7 +84,6 @@ pub fn drawn(
 {
     prove!(elements.len() <= MOST_ELEMENTS as usize);
     let _fewest = shortest(bench, elements);
-    let path = drawn_path(alloc, rows(bench), append, elements)?;
-    let bits = spell(alloc, &path, elements)?;
+    let bits = drawn_bits(alloc, rows(bench), append, elements)?;
     Ok(bits)
 }

@@ -1,4 +1,4 @@
-ghost use Rattle.std.specs.Prelude.{◌≡◌, ◌<◌, ◌≤◌, length};
+ghost use Rattle.std.specs.Prelude.{◌≡◌, ◌<◌, ◌≤◌, length, min};
 ghost use Rattle.aztec_modes.specs.declared.mode.Mode.TheVariants.{Upper};
 ghost use Rattle.aztec_best.specs.Shortest.{IsLeast};
 ghost use Rattle.aztec_best.specs.Bench.{IsFilledFrom};
@@ -28,7 +28,7 @@ pub(crate) const NO_COSTS: Costs = Costs {
 fn fill_places(costs: &mut [Costs], shorts: &mut [Lows], longs: &mut [Lows], elements: &Elements)
     requires room { length elements.now < length costs.old }
     requires short_room { length shorts.old ≡ 31 }
-    requires long_room { length longs.old ≡ 2048 }
+    requires long_room { min (length elements.now) 2048 ≤ length longs.old }
     requires fits { length elements.now ≤ MOST_ELEMENTS }
     ensures { IsFilledFrom costs.new elements.now 0 }
 {
@@ -63,7 +63,7 @@ pub(crate) fn fill(
 ) -> u64
     requires room { length elements.now < length costs.old }
     requires short_room { length shorts.old ≡ 31 }
-    requires long_room { length longs.old ≡ 2048 }
+    requires long_room { min (length elements.now) 2048 ≤ length longs.old }
     requires fits { length elements.now ≤ MOST_ELEMENTS }
     ensures filled { IsFilledFrom costs.new elements.now 0 }
     ensures fewest { IsLeast Upper elements.now result }

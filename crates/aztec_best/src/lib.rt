@@ -7,6 +7,7 @@ mod costs;
 mod draw;
 mod fill;
 mod front;
+mod lengths;
 mod limit;
 mod lows;
 mod numbers;

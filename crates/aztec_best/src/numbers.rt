@@ -1,8 +1,8 @@
 ghost use Rattle.std.specs.Prelude.{◌≡◌, ◌<◌, ◌≤◌};
-ghost use Rattle.aztec_best.specs.Numbers.{numbers_of, data_number, punct_length, capital_length, byte_length, fewest_digits, single_length, is_pair, has_pair, own_number, pair_of, pair_from, pair_number, controls_from};
+ghost use Rattle.aztec_best.specs.Numbers.{numbers_of, data_number, punct_length, capital_length, byte_length, fewest_digits, is_pair, has_pair, own_number, pair_of, pair_from, pair_number, controls_from};
 
 use crate::lows::NO_COST;
-use aztec_modes::{Mode, flag_width, width};
+use aztec_modes::{Mode, width};
 use bar_base::Element;
 
 /// The number of each byte's data code in Upper mode, 0 where it has none.
@@ -108,7 +108,7 @@ fn capital_length(mode: Mode) -> u32
 /// The fewest bits of a data code, or of a shift and one, that spells a byte alone.
 #[tactic(auto, unfolding(crate::specs::Numbers::byte_length))]
 #[inline(always)]
-fn byte_length(mode: Mode, byte: u8) -> u32
+pub(crate) fn byte_length(mode: Mode, byte: u8) -> u32
     ensures value { result ≡ byte_length mode byte }
     ensures few { result ≤ 1073741824 }
 {
@@ -142,21 +142,6 @@ pub(crate) fn fewest_digits(number: u32) -> u32
         5
     } else {
         6
-    }
-}
-
-/// The fewest bits of a code other than a run that spells an element alone.
-#[tactic(auto, unfolding(crate::specs::Numbers::single_length))]
-#[inline(always)]
-pub(crate) fn single_length(mode: Mode, element: Option<Element>) -> u32
-    ensures value { result ≡ single_length mode element }
-    ensures few { result ≤ 1073741824 }
-{
-    match element {
-        None => NO_COST,
-        Some(Element::Byte(byte)) => byte_length(mode, byte),
-        Some(Element::Eci(number)) => flag_width(mode) + 4 * fewest_digits(number),
-        Some(Element::Fnc1) => flag_width(mode),
     }
 }
 

@@ -65,7 +65,7 @@ fn runs_of(
     requires head { form.head ≤ 21 }
     requires there { form.fewest ≤ bytes }
     requires keys { HasKeys costs.now (place + 1) (place + bytes) }
-    requires room { form.most < form.fewest + length stored.old }
+    requires room { min bytes form.most < form.fewest + length stored.old }
     requires goes_on { form.fewest < bytes → IsWindow costs.now stored.old (place + form.fewest + 1)
         (place + min bytes form.most) window.old }
     ensures window { IsWindow costs.now stored.new (place + form.fewest) (place + min bytes form.most) window.new }
@@ -89,7 +89,7 @@ pub(crate) fn runs_at(
 ) -> Lows
     requires keys { 1 ≤ bytes → HasKeys costs.now (place + 1) (place + bytes) }
     requires short_room { length shorts.old ≡ 31 }
-    requires long_room { length longs.old ≡ 2048 }
+    requires long_room { 31 ≤ bytes → min bytes 2078 < 31 + length longs.old }
     requires short { 1 < bytes → IsWindow costs.now shorts.old (place + 2) (place + min bytes 31) short.old }
     requires long { 31 < bytes → IsWindow costs.now longs.old (place + 32) (place + min bytes 2078) long.old }
     ensures short { 1 ≤ bytes → IsWindow costs.now shorts.new (place + 1) (place + min bytes 31) short.new }

@@ -1,7 +1,8 @@
-ghost use Rattle.std.specs.Prelude.{◌≡◌, ◌<◌, ◌≤◌, ◌+◌, drop, length};
+ghost use Rattle.std.specs.Prelude.{◌≡◌, ◌<◌, ◌≤◌, ◌+◌, IsTrue, drop, length, min};
 ghost use Rattle.aztec_modes.specs.declared.mode.Mode.{Mode as ModeValue};
 ghost use Rattle.aztec_best.specs.Latches.{latch_bits};
-ghost use Rattle.aztec_best.specs.Bench.{mode_cost};
+ghost use Rattle.aztec_best.specs.Bench.{kept_cost, mode_cost};
+ghost use Rattle.aztec_best.specs.Numbers.{has_pair, punct_length, single_length};
 ghost use Rattle.aztec_best.specs.Ready.{IsReady};
 ghost use Rattle.aztec_best.specs.Runs.{AreRunStarts};
 ghost use Rattle.aztec_best.specs.Start.{data_start, start_in, settled, start_of};
@@ -10,10 +11,11 @@ ghost use Rattle.aztec_best.specs.Shortest.{IsLeast};
 
 use crate::costs::Costs;
 use crate::front::Front;
+use crate::lengths::{pair_lengths, single_lengths};
 use crate::lows::Lows;
-use crate::numbers::{has_pair, punct_length, single_length};
+use crate::numbers::has_pair;
 use crate::starts::Starts;
-use crate::table::kept;
+use crate::table::row_kept;
 use aztec_modes::Mode;
 use bar_base::Elements;
 
@@ -68,19 +70,73 @@ fn settled_bits(mode: Mode, starts: &Starts) -> u32
     upper.min(lower.min(mixed.min(punct.min(digit))))
 }
 
-/// The fewest bits from a mode on that begin with a code, other than a run, which spells something.
+/// The lesser bits in each mode.
+#[tactic(auto, unfolding(crate::specs::Start::start_of))]
+#[inline(always)]
+fn lesser(former: Starts, latter: Starts) -> Starts
+    ensures { (mode : ModeValue) → start_of result mode ≡ min (start_of former mode) (start_of latter mode) }
+{
+    Starts {
+        upper: former.upper.min(latter.upper),
+        lower: former.lower.min(latter.lower),
+        mixed: former.mixed.min(latter.mixed),
+        punct: former.punct.min(latter.punct),
+        digit: former.digit.min(latter.digit),
+    }
+}
+
+/// The bits of codes and of the cheapest rest after them, in each mode.
+#[tactic(auto, unfolding(crate::specs::Start::start_of, crate::specs::Bench::mode_cost))]
+#[inline(always)]
+fn before_rest(lengths: Starts, rest: Costs) -> Starts
+    requires few { (mode : ModeValue) → start_of lengths mode ≤ 1073741824 }
+    requires small { (mode : ModeValue) → mode_cost rest mode ≤ 303113 }
+    ensures value { (mode : ModeValue) → start_of result mode ≡ start_of lengths mode + mode_cost rest mode }
+    ensures small { (mode : ModeValue) → start_of result mode ≤ 1100000000 }
+{
+    Starts {
+        upper: lengths.upper + rest.upper,
+        lower: lengths.lower + rest.lower,
+        mixed: lengths.mixed + rest.mixed,
+        punct: lengths.punct + rest.punct,
+        digit: lengths.digit + rest.digit,
+    }
+}
+
+/// The fewest bits in each mode that begin with a code, other than a run, which spells one element.
+#[inline(always)]
+fn single_starts(costs: &[Costs], elements: &Elements, place: usize, front: &Front) -> Starts
+    requires { IsReady costs.now elements.now place front.now }
+    ensures value { (mode : ModeValue) → start_of result mode
+        ≡ single_length mode front.now.first + kept_cost costs.now (place + 1) mode }
+    ensures small { (mode : ModeValue) → start_of result mode ≤ 1100000000 }
+{
+    before_rest(single_lengths(front.first), row_kept(costs, place + 1))
+}
+
+/// The fewest bits in each mode that begin with a code which spells two bytes.
+#[inline(always)]
+fn pair_starts(costs: &[Costs], elements: &Elements, place: usize, front: &Front) -> Starts
+    requires ready { IsReady costs.now elements.now place front.now }
+    requires pair { IsTrue (has_pair front.now.first front.now.second) }
+    ensures { (mode : ModeValue) → start_of result mode ≡ punct_length mode + kept_cost costs.now (place + 2) mode }
+{
+    before_rest(pair_lengths(), row_kept(costs, place + 2))
+}
+
+/// The fewest bits in each mode that begin with a code, other than a run, which spells something.
 #[tactic(auto, unfolding(crate::specs::Start::data_start))]
 #[inline(always)]
-fn data_start(costs: &[Costs], elements: &Elements, place: usize, mode: Mode, front: &Front) -> u32
+fn data_starts(costs: &[Costs], elements: &Elements, place: usize, front: &Front) -> Starts
     requires { IsReady costs.now elements.now place front.now }
-    ensures value { result ≡ data_start costs.now place mode front.now }
-    ensures small { result ≤ 1100000000 }
+    ensures value { (mode : ModeValue) → start_of result mode ≡ data_start costs.now place mode front.now }
+    ensures small { (mode : ModeValue) → start_of result mode ≤ 1100000000 }
 {
-    let single = single_length(mode, front.first) + kept(costs, place + 1, mode);
+    let singles = single_starts(costs, elements, place, front);
     if has_pair(front.first, front.second) {
-        single.min(punct_length(mode) + kept(costs, place + 2, mode))
+        lesser(singles, pair_starts(costs, elements, place, front))
     } else {
-        single
+        singles
     }
 }
 
@@ -97,15 +153,13 @@ fn starts_at(
     ensures value { (mode : ModeValue) → start_of result mode ≡ start_in costs.now place mode front.now runs }
     ensures small { (mode : ModeValue) → start_of result mode ≤ 1100000000 }
 {
-    let upper = data_start(costs, elements, place, Mode::Upper, front);
-    let lower = data_start(costs, elements, place, Mode::Lower, front);
-    let mixed = data_start(costs, elements, place, Mode::Mixed, front);
+    let data = data_starts(costs, elements, place, front);
     Starts {
-        upper: upper.min(runs.upper),
-        lower: lower.min(runs.lower),
-        mixed: mixed.min(runs.mixed),
-        punct: data_start(costs, elements, place, Mode::Punct, front),
-        digit: data_start(costs, elements, place, Mode::Digit, front),
+        upper: data.upper.min(runs.upper),
+        lower: data.lower.min(runs.lower),
+        mixed: data.mixed.min(runs.mixed),
+        punct: data.punct,
+        digit: data.digit,
     }
 }
 

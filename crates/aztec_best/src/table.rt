@@ -1,4 +1,5 @@
 ghost use Rattle.std.specs.Prelude.{◌≡◌};
+ghost use Rattle.aztec_modes.specs.declared.mode.Mode.{Mode as ModeValue};
 ghost use Rattle.aztec_best.specs.Bench.{mode_cost, kept_cost, kept_bytes};
 
 use crate::costs::Costs;
@@ -29,6 +30,18 @@ pub(crate) fn kept(costs: &[Costs], place: usize, mode: Mode) -> u32
     match costs.get(place) {
         Some(costs) => cost_in(costs, mode),
         None => cost_in(&NO_COSTS, mode),
+    }
+}
+
+/// What is kept for a place, nothing past the last place.
+#[tactic(auto, unfolding(crate::specs::Bench::kept_cost))]
+#[inline(always)]
+pub(crate) fn row_kept(costs: &[Costs], place: usize) -> Costs
+    ensures { (mode : ModeValue) → mode_cost result mode ≡ kept_cost costs.now place mode }
+{
+    match costs.get(place) {
+        Some(costs) => *costs,
+        None => NO_COSTS,
     }
 }
 

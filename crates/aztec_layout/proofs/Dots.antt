@@ -1,17 +1,20 @@
 -- What the loops that draw have drawn so far: the first of their modules.
-use Rattle.std.proofs.Common.{◌≡◌, ◌≢◌, ℕ, ◌+◌, ◌-◌, ◌*◌, ◌%◌, ◌<◌, ◌≤◌, ⊎_elim, Bool, true, false, List, Some, length, refl, ap, subst, sym, ◌∙◌, arith}
+use Rattle.std.proofs.Common.{◌≡◌, ◌≢◌, ℕ, ◌+◌, ◌-◌, ◌*◌, ◌/◌, ◌%◌, ◌<◌, ◌≤◌, ⊎_elim, Bool, true, false, List, Some, length, refl, ap, subst, sym, ◌∙◌, arith}
 use Rattle.std.specs.Prelude.{IsTrue, slice_get}
 use Rattle.std.specs.Int.{abs_diff}
 use Rattle.std.proofs.lemmas.Bool.{cases_lt}
+use Rattle.std.proofs.Math.Nat.{div-lt_iff_lt-mul}
+use Rattle.std.proofs.lemmas.Nat.{div-add-mod', mod_below}
 use Rattle.std.proofs.lemmas.Option.{slice_get_within}
 use Rattle.bar_base.specs.Picture.{Picture, row_count}
 use Rattle.aztec_layout.specs.Core.{is_dark_fixed, mode_place, rim_of}
 use Rattle.aztec_layout.specs.Painting.{Paints}
 use Rattle.aztec_layout.specs.declared.sizes.Size.{Size}
 use Rattle.aztec_layout.specs.Places.{IsBitPlace, bits_before, pairs_on_side}
-use Rattle.aztec_layout.specs.SymbolGrid.{IsDataDot, IsLayerDot, IsModeDot}
+use Rattle.aztec_layout.specs.SymbolGrid.{IsDataDot, IsLayerDot, IsModeDot, IsSideDot}
 use Rattle.aztec_layout.proofs.Bare.{bare_light}
-use Rattle.aztec_layout.proofs.PaintingLemmas.{Upto, paints_begin, paints_none, paints_same}
+use Rattle.aztec_layout.proofs.PaintingLemmas.{Upto, paints_begin, paints_same}
+use Rattle.aztec_layout.proofs.Sides.{side_within}
 use Rattle.aztec_layout.proofs.Spots.{SamePlace, place_only}
 
 -- the dark fixed module in column `column` of row y
@@ -104,24 +107,43 @@ placed_dot size q x y dark g h there p =
     ))
     (λ a b in_a in_b r. let only : SamePlace a x b y = place_only size q a b x y r.1 there in (r.0, only.column, only.row))
 
-pub light_dot : (size : Size) (q : ℕ) (dark : Bool) (g : Picture) → dark ≡ false → Paints g g (λ a b. (dark ≡ true) × IsBitPlace size q a b)
-light_dot size q dark g light = paints_none g (λ a b. (dark ≡ true) × IsBitPlace size q a b) (λ a b r. let both : true ≡ false = sym r.0 ∙ light in absurd (cc))
+-- bit `along` of a side of a layer, if it is 1
+abbrev pub SideDot : (size : Size) (bits : List Bool) (layer side along a b : ℕ) → Type 0
+SideDot size bits layer side along a b = DataDot size bits layer (side * (2 * pairs_on_side size layer) + along) a b
 
-pub layer_done : (size : Size) (bits : List Bool) (layer n : ℕ) (g h : Picture) → n ≡ 8 * pairs_on_side size layer →
-    Paints g h (Upto (DataDot size bits layer) n) → Paints g h (IsLayerDot size bits layer)
-layer_done size bits layer n g h all p = paints_same g h (Upto (DataDot size bits layer) n) (IsLayerDot size bits layer) p
+pub side_done : (size : Size) (bits : List Bool) (layer side n : ℕ) (g h : Picture) → n ≡ 2 * pairs_on_side size layer →
+    Paints g h (Upto (SideDot size bits layer side) n) → Paints g h (IsSideDot size bits layer side)
+side_done size bits layer side n g h all p = paints_same g h (Upto (SideDot size bits layer side) n) (IsSideDot size bits layer side) p
+    (λ a b in_a in_b q. record { along = q.0; below = subst (λ (k : ℕ). q.0 < k) all q.1; one = q.2.0; place = q.2.1 })
+    (λ a b in_a in_b q. (q.along, subst (λ (k : ℕ). q.along < k) (sym all) q.below, (q.one, q.place)))
+
+pub layer_done : (size : Size) (bits : List Bool) (layer n : ℕ) (g h : Picture) → n ≡ 4 →
+    Paints g h (Upto (IsSideDot size bits layer) n) → Paints g h (IsLayerDot size bits layer)
+layer_done size bits layer n g h all p = paints_same g h (Upto (IsSideDot size bits layer) n) (IsLayerDot size bits layer) p
     (λ a b in_a in_b q. record {
-      bit = bits_before size layer + q.0;
+      bit = bits_before size layer + (q.0 * (2 * pairs_on_side size layer) + q.2.along);
       from = omega arith;
-      below = let few : q.0 < n = q.1 in omega (arith, all, few);
-      one = q.2.0;
-      place = q.2.1;
+      below = let within : q.0 * (2 * pairs_on_side size layer) + q.2.along < 8 * pairs_on_side size layer =
+          side_within q.0 q.2.along (pairs_on_side size layer) (subst (λ (k : ℕ). q.0 < k) all q.1) q.2.below in omega (arith, within);
+      one = q.2.one;
+      place = q.2.place;
     })
     (λ a b in_a in_b q.
-    let e : bits_before size layer + (q.bit - bits_before size layer) ≡ q.bit = omega (arith, q.from) in (
-      q.bit - bits_before size layer,
-      (let below : q.bit < bits_before size layer + 8 * pairs_on_side size layer = q.below in let from : bits_before size layer ≤ q.bit = q.from in omega (arith, all)),
-      (ap (slice_get bits) e ∙ q.one, subst (λ (t : ℕ). IsBitPlace size t a b) (sym e) q.place),
+    let run : ℕ = 2 * pairs_on_side size layer in
+    let number : ℕ = q.bit - bits_before size layer in
+    let few : number < 4 * run = let below : q.bit < bits_before size layer + 8 * pairs_on_side size layer = q.below in
+    let from : bits_before size layer ≤ q.bit = q.from in omega arith in
+    let some : 0 < run = omega (arith, few) in
+    let e : bits_before size layer + (number / run * run + number % run) ≡ q.bit =
+    ap (λ (k : ℕ). bits_before size layer + k) (div-add-mod' number run) ∙ (let from : bits_before size layer ≤ q.bit = q.from in omega arith) in (
+      number / run,
+      subst (λ (k : ℕ). number / run < k) (sym all) ((div-lt_iff_lt-mul some).1 few),
+      record {
+        along = number % run;
+        below = mod_below number run some;
+        one = ap (slice_get bits) e ∙ q.one;
+        place = subst (λ (t : ℕ). IsBitPlace size t a b) (sym e) q.place;
+      },
     ))
 
 pub data_done : (size : Size) (bits : List Bool) (n : ℕ) (g h : Picture) → n ≡ size.layers →

@@ -8,7 +8,7 @@ mod DrawnLemmas
 pub mod Layers
 mod Lines
 mod ModeLemmas
-mod PaintingLemmas
+pub mod PaintingLemmas
 mod Ranks
 pub mod ReadLemmas
 pub mod ShownCodewords

@@ -72,12 +72,12 @@ paints_next g h k A n first then = paints_both g h k (Upto A n) (A n) (Upto A (n
         (λ h. let le : n ≤ i = h in inr (subst (λ (j : ℕ). A j x y) (let e : i ≡ n = omega arith in e) a)) cases
 
 -- reading a list after a write
-slice_get-set_same : {X : Type 0} (xs : List X) (i : ℕ) (v : X) → i < length xs → slice_get (set xs i v) i ≡ Some v
+pub slice_get-set_same : {X : Type 0} (xs : List X) (i : ℕ) (v : X) → i < length xs → slice_get (set xs i v) i ≡ Some v
 slice_get-set_same [] i v inside = absurd (omega arith)
 slice_get-set_same (x ∷ xs) zero v inside = refl
 slice_get-set_same (x ∷ xs) (suc i) v inside = slice_get-set_same xs i v (omega arith)
 
-slice_get-set_other : {X : Type 0} (xs : List X) (i j : ℕ) (v : X) → i ≢ j → slice_get (set xs i v) j ≡ slice_get xs j
+pub slice_get-set_other : {X : Type 0} (xs : List X) (i j : ℕ) (v : X) → i ≢ j → slice_get (set xs i v) j ≡ slice_get xs j
 slice_get-set_other [] i j v apart = refl
 slice_get-set_other (x ∷ xs) zero zero v apart = absurd (apart refl)
 slice_get-set_other (x ∷ xs) zero (suc j) v apart = refl

@@ -203,3 +203,9 @@ place_there s q below =
       data_line s (corner_at s l.layer (q - bits_before s l.layer)).1,
       record { layer = l.layer; is_layer = l.is_layer; from = l.from; below = l.below; column = refl; row = refl },
     )
+
+-- what `place_in` gives at the bit's number in its layer is the bit's place
+pub at_bit : (s : Size) (layer before bit x y : ℕ) → before ≡ bits_before s layer → before ≤ bit →
+    IsBitPlace s (bits_before s layer + (bit - before)) x y → IsBitPlace s bit x y
+at_bit s layer before bit x y is-before le p =
+    subst (λ (q : ℕ). IsBitPlace s q x y) (let e : bits_before s layer + (bit - before) ≡ bit = omega arith in e) p

@@ -1,5 +1,5 @@
 -- The module of each data bit.
-use Rattle.std.specs.Prelude.{◌≡◌, ℕ, ◌+◌, ◌-◌, ◌*◌, ◌/◌, ◌%◌, ◌<◌, ◌≤◌, nat_lt, ◌==◌, zero, suc, false, if◌then◌else◌}
+use Rattle.std.specs.Prelude.{◌≡◌, ℕ, ◌+◌, ◌-◌, ◌*◌, ◌/◌, ◌%◌, ◌<◌, ◌≤◌, nat_lt, ◌==◌, zero, suc, false, List, length, slice_index_or, if◌then◌else◌}
 use Rattle.aztec_layout.specs.declared.sizes.Size.{Size}
 use Rattle.aztec_layout.specs.Sizes.{base_side, side_of}
 use Rattle.aztec_layout.specs.Core.{is_finder, is_dark_mark, is_light_mark, is_reference, mode_place, mode_run}
@@ -17,6 +17,11 @@ data_line size i =
     (let t = base_side size / 2 - 1 - i in centre_of size - 1 - t - t / 15)
     else (let t = i - base_side size / 2 in centre_of size + 1 + t + t / 15)
     else i
+
+-- A list has the column or row of each of those lines.
+pub record AreDataLines (size : Size) (lines : List ℕ) : Type 0 where
+  pub room : base_side size ≤ length lines
+  pub each : (i : ℕ) → i < base_side size → slice_index_or lines i 0 ≡ data_line size i
 
 -- The pairs of bits on one side of layer i, counted from 0 at the outside (ISO/IEC 24778, data placement).
 abbrev pub pairs_on_side : Size → ℕ → ℕ

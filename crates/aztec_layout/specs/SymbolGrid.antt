@@ -1,11 +1,11 @@
 -- Which modules of a symbol are dark.
-use Rattle.std.specs.Prelude.{◌≡◌, ℕ, ◌*◌, ◌<◌, ◌≤◌, ◌↔◌, ◌⊎◌, ◌++◌, Bool, false, true, List, Some, IsTrue, length, replicate, slice_get, suc}
+use Rattle.std.specs.Prelude.{◌≡◌, ℕ, ◌+◌, ◌*◌, ◌<◌, ◌≤◌, ◌↔◌, ◌⊎◌, ◌++◌, Bool, false, true, List, Some, IsTrue, length, replicate, slice_get, suc}
 use Rattle.bar_base.specs.Picture.{Picture, module_at}
 use Rattle.aztec_layout.specs.declared.sizes.Size.{Size}
 use Rattle.aztec_layout.specs.CoreReading.{AreModeWords, HasFinder}
 use Rattle.aztec_layout.specs.ModeMessage.{IsModeMessage, word_bits}
 use Rattle.aztec_layout.specs.Core.{is_dark_fixed, mode_place}
-use Rattle.aztec_layout.specs.Places.{IsBitPlace, bits_before, centre_of}
+use Rattle.aztec_layout.specs.Places.{IsBitPlace, bits_before, centre_of, pairs_on_side}
 use Rattle.aztec_layout.specs.Sizes.{codeword_width, lead_bits, side_of}
 
 -- The bits of all data layers: zeros for what is left over, and the codewords (ISO/IEC 24778, data placement).
@@ -31,6 +31,13 @@ pub record IsLayerDot (size : Size) (bits : List Bool) (layer x y : ℕ) : Type 
   pub below : bit < bits_before size (suc layer)
   pub one : slice_get bits bit ≡ Some true
   pub place : IsBitPlace size bit x y
+
+-- The same for the bits of one side of a layer.
+pub record IsSideDot (size : Size) (bits : List Bool) (layer side x y : ℕ) : Type 0 where
+  pub along : ℕ
+  pub below : along < 2 * pairs_on_side size layer
+  pub one : slice_get bits (bits_before size layer + (side * (2 * pairs_on_side size layer) + along)) ≡ Some true
+  pub place : IsBitPlace size (bits_before size layer + (side * (2 * pairs_on_side size layer) + along)) x y
 
 -- The dark modules of a symbol with the words of a mode message and the codewords (ISO/IEC 24778, symbol structure).
 abbrev pub IsDark : (size : Size) (modes words : List ℕ) (x y : ℕ) → Type 0

@@ -58,8 +58,9 @@ fn differs(grid: &Grid, full: bool, x: u32, y: u32) -> bool
     is_core(full, centre, x, y) && grid.dark(x, y) != is_dark_core(full, centre, x, y)
 }
 
-/// Whether a module belongs to finder and marks.
-fn is_core(full: bool, centre: u32, x: u32, y: u32) -> bool
+/// Whether a module belongs to the finder or the orientation marks round a centre, for a kind of symbol (ISO/IEC 24778,
+/// symbol structure).
+pub fn is_core(full: bool, centre: u32, x: u32, y: u32) -> bool
     requires room { rim_of full ≤ centre }
     requires fits { centre < 2 ^ 31 }
     ensures { result ≡ is_core_at full centre x y }
@@ -69,8 +70,8 @@ fn is_core(full: bool, centre: u32, x: u32, y: u32) -> bool
         || is_light_mark(full, centre, x, y)
 }
 
-/// Whether a module of finder and marks is dark.
-fn is_dark_core(full: bool, centre: u32, x: u32, y: u32) -> bool
+/// Whether a module is a dark one of the finder or the orientation marks round a centre (ISO/IEC 24778, symbol structure).
+pub fn is_dark_core(full: bool, centre: u32, x: u32, y: u32) -> bool
     requires room { rim_of full ≤ centre }
     requires fits { centre < 2 ^ 31 }
     ensures { result ≡ is_dark_core_at full centre x y }

@@ -2,8 +2,9 @@ ghost use Rattle.std.specs.Prelude.{◌≡◌, ℕ, ◌+◌, ◌*◌, ◌^◌, �
 ghost use Rattle.std.specs.Bool.{OnTrue};
 ghost use Rattle.aztec_layout.specs.Core.{IsBare, dark_marks, ring_of, is_among, is_dark_fixed as is_dark_fixed_at, is_dark_finder as is_dark_finder_at, is_dark_mark as is_dark_mark_at, is_dark_reference as is_dark_reference_at, is_finder as is_finder_at, is_light_mark as is_light_mark_at, light_marks, mode_line as mode_line_of, mode_place as mode_place_of, mode_run as mode_run_of, rim_of};
 
-/// The distance of the orientation marks and the mode message from the centre.
-pub(crate) fn rim(full: bool) -> u32
+/// The distance of the orientation marks and the mode message from the centre, in modules: 5 in a compact symbol, 7 in
+/// a full one (ISO/IEC 24778, symbol structure).
+pub fn rim(full: bool) -> u32
     ensures { result ≡ rim_of full }
 {
     if full { 7 } else { 5 }

@@ -2,7 +2,7 @@ ghost use Rattle.std.specs.Prelude.{◌≡◌, ◌+◌, ◌<◌, ◌≤◌, ℕ,
 ghost use Rattle.aztec_layout.specs.DataReading.{AreCodewords, HasSide, ShowsNumber};
 ghost use Rattle.aztec_layout.specs.Sizes.{codeword_width, layer_bits};
 
-use crate::placement::place;
+use crate::placement::{layer_near, place_near};
 use crate::sizes::{Size, codewords, lead, width};
 use bar_base::{Grid, NoMemory, Words};
 use std::alloc::Global;
@@ -17,21 +17,24 @@ pub fn codewords_read(alloc: Global, grid: &Grid, size: Size) -> Result<Words, N
 {
     let mut words = Words::new(alloc);
     let first = lead(size);
+    let mut layer = 0;
     for k in 0..codewords(size) {
-        words.push(codeword_at(grid, size, first + k * width(size)))?;
+        let at = first + k * width(size);
+        layer = layer_near(size, layer, at);
+        words.push(codeword_at(grid, size, layer, at))?;
     }
     Ok(words)
 }
 
-/// The codeword whose bits are at the places from a bit on.
-fn codeword_at(grid: &Grid, size: Size, first: u32) -> u16
+/// The codeword whose bits are at the places from a bit on, looked for in one layer before all others.
+fn codeword_at(grid: &Grid, size: Size, layer: u32, first: u32) -> u16
     requires side { HasSide grid.now size }
     requires inside { first + codeword_width size ≤ layer_bits size }
     ensures { ShowsNumber size grid.now first (codeword_width size) result }
 {
     let mut word = 0;
     for i in 0..width(size) {
-        let (x, y) = place(size, first + i);
+        let (x, y) = place_near(size, layer, first + i);
         word = word * 2 + u16::from(grid.dark(x, y));
     }
     word

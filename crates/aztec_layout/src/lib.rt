@@ -21,7 +21,8 @@ mod unstuffing;
 
 pub use allowed::Allowed;
 pub use choice::{NoFit, fit};
-pub use core_reading::{finder, mode_read};
+pub use core_reading::{finder, is_core, is_dark_core, mode_read};
+pub use core_symbol::rim;
 pub use counting::needs;
 pub use data_reading::codewords_read;
 pub use fitting::{Needs, first_size, needed, smallest};

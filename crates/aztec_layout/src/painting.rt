@@ -8,16 +8,14 @@ ghost use Rattle.aztec_layout.specs.SymbolGrid.{IsModeDot};
 use crate::core_symbol::{is_dark_fixed, mode_place};
 use bar_base::Grid;
 
-/// Makes a module dark where `dark` says so.
+/// Makes a module dark where `dark` says so. There is no branch, since half of the bits are dark and no order in them can be foretold.
 pub(crate) fn dot(grid: &mut Grid, x: u32, y: u32, dark: bool)
     requires column { x < grid.old.width }
     requires row { y < row_count grid.old }
     ensures { Paints grid.old grid.new (λ a b. (dark ≡ true) × (a ≡ x) × (b ≡ y)) }
 {
-    if dark {
-        let was = grid.dark(x, y);
-        grid.set(x, y, dark | was);
-    }
+    let was = grid.dark(x, y);
+    grid.set(x, y, dark | was);
 }
 
 /// Draws the finder, the orientation marks and the reference grid.

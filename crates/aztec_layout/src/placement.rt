@@ -1,6 +1,6 @@
-ghost use Rattle.std.specs.Prelude.{◌≡◌, ℕ, ◌+◌, ◌*◌, ◌-◌, ◌/◌, ◌%◌, ◌^◌, ◌<◌, ◌≤◌};
+ghost use Rattle.std.specs.Prelude.{◌≡◌, ℕ, ◌+◌, ◌*◌, ◌-◌, ◌/◌, ◌%◌, ◌^◌, ◌<◌, ◌≤◌, length};
 ghost use Rattle.aztec_layout.specs.Sizes.{IsSize, base_side, layer_bits};
-ghost use Rattle.aztec_layout.specs.Places.{IsDataModule, IsBitPlace, bits_before, corner_at, corner_of, data_line, pairs_on_side};
+ghost use Rattle.aztec_layout.specs.Places.{AreDataLines, IsDataModule, IsBitPlace, bits_before, corner_at, corner_of, data_line, pairs_on_side};
 
 use crate::sizes::{Size, base, side};
 
@@ -25,6 +25,42 @@ pub fn place(size: Size, bit: u32) -> (u32, u32)
     unreachable!()
 }
 
+/// The same, looked for in one layer before all others.
+#[inline(always)]
+pub(crate) fn place_near(size: Size, layer: u32, bit: u32) -> (u32, u32)
+    requires sized { IsSize size }
+    requires inside { bit < layer_bits size }
+    ensures only { (x y : ℕ) → IsBitPlace size bit x y → (x ≡ result.0) × (y ≡ result.1) }
+    ensures free { IsDataModule size result.0 result.1 }
+{
+    if layer >= size.layers {
+        return place(size, bit);
+    }
+    let before = first_bit(size, layer);
+    if bit < before {
+        return place(size, bit);
+    }
+    if bit - before >= 8 * pairs(size, layer) {
+        return place(size, bit);
+    }
+    place_in(size, layer, bit - before)
+}
+
+/// The layer to look in for a bit, where it was looked for in `layer` before: the next one, if it does not begin past the bit.
+pub(crate) fn layer_near(size: Size, layer: u32, bit: u32) -> u32
+    requires { IsSize size }
+{
+    let next = layer.saturating_add(1);
+    if next >= size.layers {
+        return layer;
+    }
+    if first_bit(size, next) <= bit {
+        next
+    } else {
+        layer
+    }
+}
+
 /// The column and row of bit `number` of a layer.
 pub(crate) fn place_in(size: Size, layer: u32, number: u32) -> (u32, u32)
     requires sized { IsSize size }
@@ -36,6 +72,33 @@ pub(crate) fn place_in(size: Size, layer: u32, number: u32) -> (u32, u32)
 {
     let (column, row) = corner(size, layer, number);
     (line(size, column), line(size, row))
+}
+
+/// The column and row of bit `along` of a side of a layer, with those of the data lines in a list.
+#[inline(always)]
+pub(crate) fn place_by(lines: &[u32], size: Size, layer: u32, side: u32, along: u32) -> (u32, u32)
+    requires sized { IsSize size }
+    requires layer { layer < size.layers }
+    requires side { side < 4 }
+    requires along { along < 2 * pairs_on_side size layer }
+    requires lines { AreDataLines size lines.now }
+    ensures place { IsBitPlace size (bits_before size layer + (side * (2 * pairs_on_side size layer) + along))
+        result.0 result.1 }
+    ensures free { IsDataModule size result.0 result.1 }
+{
+    let (column, row) = corner_on(size, layer, side, along);
+    (lines[column as usize], lines[row as usize])
+}
+
+/// Writes the columns and rows of all data lines.
+pub(crate) fn write_lines(size: Size, lines: &mut [u32])
+    requires sized { IsSize size }
+    requires room { base_side size ≤ length lines.old }
+    ensures { AreDataLines size lines.new }
+{
+    for number in 0..base(size) {
+        lines[number as usize] = line(size, number);
+    }
 }
 
 /// The bits of the layers outside a layer.
@@ -68,13 +131,24 @@ fn corner(size: Size, layer: u32, number: u32) -> (u32, u32)
     ensures column_inside { result.0 < base_side size }
     ensures row_inside { result.1 < base_side size }
 {
-    let run = 2 * pairs(size, layer);
+    let (side, along) = sided(number, 2 * pairs(size, layer));
+    corner_on(size, layer, side, along)
+}
+
+/// The same by the side and the number on it.
+#[inline(always)]
+fn corner_on(size: Size, layer: u32, side: u32, along: u32) -> (u32, u32)
+    requires sized { IsSize size }
+    requires layer { layer < size.layers }
+    requires along { along < 2 * pairs_on_side size layer }
+    ensures column { result.0 ≡ (corner_at size layer (side * (2 * pairs_on_side size layer) + along)).0 }
+    ensures row { result.1 ≡ (corner_at size layer (side * (2 * pairs_on_side size layer) + along)).1 }
+    ensures column_inside { result.0 < base_side size }
+    ensures row_inside { result.1 < base_side size }
+{
     let low = 2 * layer;
     let high = base(size) - 1 - low;
-    let (round, rest) = sided(number, run);
-    let pair = rest / 2;
-    let bit = number % 2;
-    turned(low, high, round, pair, bit)
+    turned(low, high, side, along / 2, along % 2)
 }
 
 /// The side of a number of a layer, and the number on it, with no division.

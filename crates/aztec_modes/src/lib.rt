@@ -14,12 +14,12 @@ mod splitting;
 mod table;
 
 pub use code::Code;
-pub use message::elements_of;
+pub use message::{elements_of, into_elements};
 pub use mode::Mode;
 pub use parts::{code_count, code_length, code_next, flag_width, run_head};
 pub use path::Path;
 pub use reading::{ReadFault, read};
-pub use spelling::spell;
+pub use spelling::{push_code, spell};
 pub use table::{DIGIT, LOWER, MIXED, PUNCT, Symbol, UPPER, symbol_at, width};
 
 #[cfg(test)]

@@ -107,3 +107,15 @@ pub fn elements_of(alloc: Global, message: &Message) -> Result<Elements, NoMemor
     push_body(&mut elements, &message.body)?;
     Ok(elements)
 }
+
+/// The same of a message that is given up: where nothing stands before its body, its body.
+#[tactic(auto, unfolding(crate::specs::Message::message_elements, crate::specs::Message::header_elements, crate::specs::Message::gs1_elements, crate::specs::Message::eci_elements))]
+pub fn into_elements(alloc: Global, message: Message) -> Result<Elements, NoMemory>
+    requires { IsMessage message }
+    ensures { IfOk result (λ elements. elements ≡ message_elements message) }
+{
+    if message.append.is_some() || message.gs1 || message.eci.is_some() {
+        return elements_of(alloc, &message);
+    }
+    Ok(message.body)
+}

@@ -10,3 +10,4 @@ pub mod PieceByPiece
 pub mod Taken
 pub mod NameMaps
 pub mod NamedFile
+pub mod OneStep

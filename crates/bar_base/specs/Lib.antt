@@ -12,6 +12,7 @@ pub mod Limits
 pub mod Outside
 pub mod Paint
 pub mod Picture
+pub mod Results
 pub mod Steps
 pub mod Stripes
 pub mod Text

@@ -1,7 +1,7 @@
 -- From a text to the values of a symbol's characters, and when a text is refused.
 use Rattle.std.specs.Prelude.{◌==◌, ℕ, List, Option, Some, None, Result, Ok, Err, length, position, nat_lt, if◌then◌else◌}
 use Rattle.std.specs.List.{flat_map}
-use Rattle.bar_base.specs.Steps.{◌>>=◌}
+use Rattle.bar_base.specs.Results.{◌>>=◌}
 use Rattle.bar_base.specs.declared.linear.LinearFault.{LinearFault}
 use Rattle.bar_base.specs.declared.linear.LinearFault.TheVariants.{NoMemory, BadCharacter, TooLong, BadCheck}
 

@@ -1,6 +1,6 @@
 //! From a text to the values of a symbol's characters.
 ghost use Rattle.std.specs.Prelude.{◌≡◌, ℕ, List, All, ◌<◌, ◌≤◌, ◌*◌, ◌==◌, length, position, IfOk, vec_len};
-ghost use Rattle.bar_base.specs.Steps.{Gives};
+ghost use Rattle.bar_base.specs.Results.{Gives};
 ghost use Rattle.bar_base.specs.Text.{refusal_of, values_of_text};
 
 use crate::linear::LinearFault;

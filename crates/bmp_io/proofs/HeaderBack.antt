@@ -4,7 +4,7 @@ use Rattle.std.specs.List.{starts_with}
 use Rattle.std.proofs.lemmas.Bool.Decides.{nat_tests}
 use Rattle.byteorder.specs.Numbers.{little_number-reads_back}
 use Rattle.byteorder.specs.Endian.{little_number, little_bytes}
-use Rattle.bar_base.specs.declared.paint.Paint.{Paint}
+use Rattle.bmp_io.specs.declared.sampling.Sampling.{Sampling}
 use Rattle.bmp_io.specs.declared.bmp_header.BmpHeader.{BmpHeader}
 use Rattle.bmp_io.specs.Bmp.{file_header, picture_header, bytes_before_pixels}
 use Rattle.bmp_io.specs.BmpHeader.{field_at, header_of, pixels_high}
@@ -56,7 +56,7 @@ pub high-written : (width height : ℕ) → height < 2147483648 → pixels_high 
 high-written width height low = grind (arith, nat_tests)
 
 -- all tests passed
-pub header-passes : (paint : Paint) (bytes : List ℕ) (header : BmpHeader) → front_read bytes ≡ Ok header → fields_test header ≡ Ok tt → palette_test header bytes ≡ Ok tt
-    → size_test paint header ≡ Ok tt → rows_test header bytes ≡ Ok tt → header_read paint bytes ≡ Ok header
+pub header-passes : (sampling : Sampling) (bytes : List ℕ) (header : BmpHeader) → front_read bytes ≡ Ok header → fields_test header ≡ Ok tt → palette_test header bytes ≡ Ok tt
+    → size_test sampling header ≡ Ok tt → rows_test header bytes ≡ Ok tt → header_read sampling bytes ≡ Ok header
 unfolding header_read
-header-passes paint bytes header front fields palette sides rows = rw (front, fields, palette, sides, rows) refl
+header-passes sampling bytes header front fields palette sides rows = rw (front, fields, palette, sides, rows) refl

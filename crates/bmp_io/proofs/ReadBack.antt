@@ -5,7 +5,7 @@ use Rattle.std.proofs.lemmas.Bool.Decides.{nat_tests}
 use Rattle.std.proofs.lemmas.List.{length-append, length-map, length-replicate, length-reverse, get_or_append_left, get_or-append-add, get_or-reverse, get_or-replicate, get_or-take, get_or-drop, get_or-map}
 use Rattle.std.proofs.lemmas.List.FromFn.{fill_by_all, length-range_with_len, get_or-range_with_len, length-map-range_with_len, get_or-map-range_with_len, map-range_with_len_more}
 use Rattle.std.proofs.Math.Nat.{add-mul-mod_self_left, div-add-mod', mul-div_cancel_left, mul-le-mul_left, mod-lt}
-use Rattle.std.proofs.lemmas.Nat.{div-mul-add, div_below}
+use Rattle.std.proofs.lemmas.Nat.{div-mul-add, div_below, mul-le}
 use Rattle.bar_base.specs.Paint.{IsPaint, unit_of, tall_rows, painted_rows, painted_width, painted_height, modules_high}
 use Rattle.bar_base.specs.Picture.{Picture, IsMatrixSymbol, IsShaped, row_of, row_count}
 use Rattle.bar_base.specs.declared.paint.Paint.{Paint}
@@ -14,8 +14,9 @@ use Rattle.bmp_io.specs.Bmp.{stride_of, image_size, file_header, picture_header,
 use Rattle.bmp_io.specs.Pixels.{module_over, pixel, eight_pixels, pixel_row}
 use Rattle.bmp_io.specs.BmpHeader.{header_of, row_start}
 use Rattle.bmp_io.specs.PixelsRead.{colour_of, pixel_at}
-use Rattle.bmp_io.specs.ReadBmp.{module_seen, modules_seen, modules_across, modules_down, picture_seen, picture_or_refused, picture_of, modules_between}
+use Rattle.bmp_io.specs.ReadBmp.{module_seen, modules_seen, modules_across, modules_down, picture_seen, picture_or_refused, picture_by, picture_of, modules_between}
 use Rattle.bmp_io.specs.Refusals.{is_side, size_test, rows_test}
+use Rattle.bmp_io.specs.Samplings.{sampling_of}
 use Rattle.bmp_io.proofs.Rows.{tall_rows-more, tall_rows-none, length-painted_rows}
 use Rattle.bmp_io.proofs.BitsOfBytes.{bit-after, get_or-rows}
 use Rattle.bmp_io.proofs.HeaderBack.{written_header, header-written, length-before_pixels, begins_with_mark, front-passes, fields-pass, palette-passes, high-written, header-passes}
@@ -131,7 +132,7 @@ middle-below unit modules white x scale inside small =
 
 -- the module in column x and row y is seen
 seen-module : (paint : Paint) (picture : Picture) (x y : ℕ) → IsPaint paint → IsMatrixSymbol picture → x < picture.width → y < row_count picture
-    → module_seen paint (written_header (painted_width paint picture) (painted_height paint picture)) (bmp_bytes paint picture) x y ≡ Some (get_or picture.modules (y * picture.width + x) false)
+    → module_seen (sampling_of paint) (written_header (painted_width paint picture) (painted_height paint picture)) (bmp_bytes paint picture) x y ≡ Some (get_or picture.modules (y * picture.width + x) false)
 unfolding module_seen pixel_at
 seen-module paint picture x y valid symbol inside below =
     let u = unit_of paint in
@@ -157,7 +158,7 @@ seen-module paint picture x y valid symbol inside below =
     ap (colour_of (written_header w h) bytes) index ∙ colour-shown paint picture w h (get_or (row_of picture y) x false) ∙ ap (λ dark. Some dark) (row-module picture x y symbol.shape inside below)
 
 -- a side that was painted
-side-passes : (unit modules white : ℕ) → 0 < unit → 0 < modules → modules ≤ 151 → is_side unit white (unit * (modules + 2 * white)) ≡ true
+side-passes : (unit modules white : ℕ) → 0 < unit → 0 < modules → modules ≤ 151 → is_side unit white 151 (unit * (modules + 2 * white)) ≡ true
 side-passes unit modules white some one few =
     let whole : unit * (modules + 2 * white) % unit ≡ 0 =
     (let e : unit * (modules + 2 * white) ≡ 0 + unit * (modules + 2 * white) = omega arith in ap (λ n. n % unit) e ∙ add-mul-mod_self_left 0 unit (modules + 2 * white) ∙ omega arith) in
@@ -176,7 +177,7 @@ length-rows f size [] sized = omega arith
 length-rows f size (x ∷ xs) sized = omega (arith, length-append (f x) (flat_map f xs), sized x, length-rows f size xs sized)
 
 -- the bytes of a file
-length-bmp : (paint : Paint) (picture : Picture) → length (bmp_bytes paint picture) ≡ 62 + stride_of paint picture * painted_height paint picture
+pub length-bmp : (paint : Paint) (picture : Picture) → length (bmp_bytes paint picture) ≡ 62 + stride_of paint picture * painted_height paint picture
 unfolding bmp_bytes rows_from_bottom row_at pixel_row
 length-bmp paint picture =
     let s = stride_of paint picture in
@@ -195,8 +196,8 @@ rows-pass width height bytes low long =
     let enough : nat_le (62 + (width + 31) / 32 * 4 * height) (length bytes) ≡ true = grind (arith, nat_tests) in
     rw (high-written width height low, one, enough) refl
 
-sides-pass : (paint : Paint) (width height : ℕ) → height < 2147483648 → is_side (unit_of paint) paint.white width ≡ true → is_side (unit_of paint) paint.vwhite height ≡ true
-    → size_test paint (written_header width height) ≡ Ok tt
+sides-pass : (paint : Paint) (width height : ℕ) → height < 2147483648 → is_side (unit_of paint) paint.white 151 width ≡ true → is_side (unit_of paint) paint.vwhite 151 height ≡ true
+    → size_test (sampling_of paint) (written_header width height) ≡ Ok tt
 unfolding size_test
 sides-pass paint width height low wide high = rw (high-written width height low, wide, high) refl
 
@@ -210,13 +211,13 @@ values-some [] = refl
 values-some (dark ∷ modules) = ap (λ rest. dark ∷ rest) (values-some modules)
 
 -- all modules were seen
-all-seen : (paint : Paint) (picture : Picture) (header : BmpHeader) (bytes : List ℕ) → IsMatrixSymbol picture → modules_across paint header ≡ picture.width → modules_down paint header ≡ row_count picture
-    → ((x y : ℕ) → x < picture.width → y < row_count picture → module_seen paint header bytes x y ≡ Some (get_or picture.modules (y * picture.width + x) false))
-    → picture_or_refused paint header (modules_seen paint header bytes (modules_down paint header * modules_across paint header)) ≡ Ok picture
+all-seen : (paint : Paint) (picture : Picture) (header : BmpHeader) (bytes : List ℕ) → IsMatrixSymbol picture → modules_across (sampling_of paint) header ≡ picture.width → modules_down (sampling_of paint) header ≡ row_count picture
+    → ((x y : ℕ) → x < picture.width → y < row_count picture → module_seen (sampling_of paint) header bytes x y ≡ Some (get_or picture.modules (y * picture.width + x) false))
+    → picture_or_refused (sampling_of paint) header (modules_seen (sampling_of paint) header bytes (modules_down (sampling_of paint) header * modules_across (sampling_of paint) header)) ≡ Ok picture
 unfolding picture_or_refused picture_seen modules_seen
 all-seen paint picture header bytes symbol wide high seen =
     let some = λ (dark : Bool). Some dark in
-    let look = λ (n : ℕ). module_seen paint header bytes (n % picture.width) (n / picture.width) in
+    let look = λ (n : ℕ). module_seen (sampling_of paint) header bytes (n % picture.width) (n / picture.width) in
     let count = row_count picture * picture.width in
     let whole : length (map some picture.modules) ≡ count = length-map picture.modules some ∙ symbol.shape.whole in
     let each : (n : ℕ) → n < count → get_or (map some picture.modules) n None ≡ look n = λ n inside.
@@ -230,7 +231,7 @@ all-seen paint picture header bytes symbol wide high seen =
 
 -- A picture of at most 151 by 151 modules, each row with the height 1, comes back from its BMP at the same paint.
 pub read_back : (paint : Paint) (picture : Picture) → IsPaint paint → IsMatrixSymbol picture → picture_of paint (bmp_bytes paint picture) ≡ Ok picture
-unfolding bmp_bytes picture_of
+unfolding bmp_bytes picture_by
 read_back paint picture valid symbol =
     let u = unit_of paint in
     let w = painted_width paint picture in
@@ -249,12 +250,23 @@ read_back paint picture valid symbol =
     let front = front-passes bytes (begins_with_mark w h (image_size paint picture) (rows_from_bottom paint picture)) (omega (arith, long)) ∙ ap (λ header. Ok header) read in
     let fields = fields-pass w h some_wide (omega (arith, few_wide)) some_high (omega (arith, few_high)) in
     let palette = palette-passes w h bytes (omega (arith, long)) in
-    let wide_passes : is_side u paint.white w ≡ true = side-passes u picture.width paint.white some (omega (arith, symbol.shape.wide)) symbol.narrow in
-    let high_passes : is_side u paint.vwhite h ≡ true = ap (is_side u paint.vwhite) is_high ∙ side-passes u (row_count picture) paint.vwhite some (omega (arith, symbol.shape.tall)) symbol.short in
+    let wide_passes : is_side u paint.white 151 w ≡ true = side-passes u picture.width paint.white some (omega (arith, symbol.shape.wide)) symbol.narrow in
+    let high_passes : is_side u paint.vwhite 151 h ≡ true = ap (is_side u paint.vwhite 151) is_high ∙ side-passes u (row_count picture) paint.vwhite some (omega (arith, symbol.shape.tall)) symbol.short in
     let sides = sides-pass paint w h (omega (arith, few_high)) wide_passes high_passes in
     let rows = rows-pass w h bytes (omega (arith, few_high)) long in
-    let wide : modules_across paint header ≡ picture.width = side-modules u picture.width paint.white some in
-    let high : modules_down paint header ≡ row_count picture =
+    let wide : modules_across (sampling_of paint) header ≡ picture.width = side-modules u picture.width paint.white some in
+    let high : modules_down (sampling_of paint) header ≡ row_count picture =
     ap (modules_between u paint.vwhite) (high-written w h (omega (arith, few_high)) ∙ is_high) ∙ side-modules u (row_count picture) paint.vwhite some in
-    rw (header-passes paint bytes header front fields palette sides rows)
+    rw (header-passes (sampling_of paint) bytes header front fields palette sides rows)
     (all-seen paint picture header bytes symbol wide high (λ x y inside below. seen-module paint picture x y valid symbol inside below))
+
+-- The BMP of such a picture has few bytes.
+pub few-bytes : (paint : Paint) (picture : Picture) → IsPaint paint → IsMatrixSymbol picture → length (bmp_bytes paint picture) ≤ 33554432
+few-bytes paint picture valid symbol =
+    let u = unit_of paint in
+    let small : u ≤ 40 = omega (arith, valid.scaled) in
+    let few_wide : painted_width paint picture ≤ 14040 = side-few u picture.width paint.white small symbol.narrow valid.narrow in
+    let is_high : painted_height paint picture ≡ u * (row_count picture + 2 * paint.vwhite) = ap (λ rows. u * (rows + 2 * paint.vwhite)) (rows-high paint picture symbol) in
+    let few_high : painted_height paint picture ≤ 14040 = rw is_high (side-few u (row_count picture) paint.vwhite small symbol.short valid.short) in
+    let stride : stride_of paint picture ≤ 1756 = omega (arith, few_wide) in
+    omega (arith, length-bmp paint picture, mul-le (stride_of paint picture) (painted_height paint picture) 1756 14040 stride few_high)

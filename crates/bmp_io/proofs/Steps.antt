@@ -1,6 +1,6 @@
 -- Where a row of steps ends.
 use Rattle.std.proofs.Common.{◌≡◌, Result, Ok, Err, refl, sym}
-use Rattle.bar_base.specs.Steps.{◌>>=◌, Gives}
+use Rattle.bar_base.specs.Results.{◌>>=◌, Gives}
 use Rattle.bmp_io.specs.declared.fault.BmpFault.{BmpFault}
 use Rattle.bmp_io.specs.declared.fault.BmpFault.TheVariants.{NoMemory, NotBmp, Unsupported, Truncated, BadSize}
 use Rattle.bmp_io.specs.Refusals.{bmp_refusal}

@@ -1,6 +1,6 @@
 -- The bytes of a BMP of a picture: its header, a palette of two colours, and rows of pixels from the bottom (the BMP
 -- format: BITMAPFILEHEADER, BITMAPINFOHEADER, palette, pixel array).
-use Rattle.std.specs.Prelude.{ℕ, List, [], ◌∷◌, ◌++◌, ◌+◌, ◌*◌, ◌/◌, codes, reverse, replicate, slice_index_or}
+use Rattle.std.specs.Prelude.{ℕ, List, [], ◌∷◌, ◌++◌, ◌+◌, ◌*◌, ◌/◌, codes, reverse, slice_index_or}
 use Rattle.std.specs.List.{flat_map, range_with_len}
 use Rattle.byteorder.specs.Endian.{little_bytes}
 use Rattle.bar_base.specs.Paint.{unit_of, painted_width, painted_height, painted_rows}

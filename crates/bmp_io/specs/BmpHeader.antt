@@ -50,6 +50,6 @@ pub record IsWhole (header : BmpHeader) (bytes : List ℕ) : Type 0 where
   pub size : header.size ≤ 124
   pub colours : colours_of header ≤ 256
   pub palette : palette_start header + 4 * colours_of header ≤ length bytes
-  pub wide : header.width ≤ 14040
-  pub high : pixels_high header ≤ 14040
+  pub wide : header.width ≤ 48960
+  pub high : pixels_high header ≤ 48960
   pub rows : header.pixels + row_size header * pixels_high header ≤ length bytes

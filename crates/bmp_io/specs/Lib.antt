@@ -4,3 +4,4 @@ pub mod Pixels
 pub mod PixelsRead
 pub mod ReadBmp
 pub mod Refusals
+pub mod Samplings

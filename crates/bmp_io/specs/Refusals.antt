@@ -1,14 +1,13 @@
 -- The tests of a BMP that is read, in their order but for the last one.
 use Rattle.std.specs.Prelude.{◌≡◌, ℕ, Bool, true, List, ◌+◌, ◌*◌, ◌/◌, ◌%◌, ◌^◌, ◌==◌, ◌&&◌, ◌||◌, Option, Some, None, Result, Ok, Err, length, nat_eq, nat_lt, nat_le, not, codes, if◌then◌else◌}
 use Rattle.std.specs.List.{starts_with}
-use Rattle.bar_base.specs.Paint.{unit_of}
-use Rattle.bar_base.specs.Steps.{◌>>=◌}
-use Rattle.bar_base.specs.declared.paint.Paint.{Paint}
+use Rattle.bar_base.specs.Results.{◌>>=◌}
 use Rattle.bmp_io.specs.BmpHeader.{header_of, pixels_high, colours_of, palette_start, row_size}
 use Rattle.bmp_io.specs.declared.bmp_header.BmpHeader.{BmpHeader}
 use Rattle.bmp_io.specs.declared.fault.BmpFault.{BmpFault}
 use Rattle.bmp_io.specs.declared.fault.BmpFault.TheVariants.{NoMemory, NotBmp, Unsupported, Truncated, BadSize}
 use Rattle.bmp_io.specs.declared.fault.BmpField.TheVariants.{Header, Planes, Bits, Compression, Width, Height, Palette}
+use Rattle.bmp_io.specs.declared.sampling.Sampling.{Sampling}
 
 -- a test, and the refusal where it fails
 abbrev pub verdict : Bool → BmpFault → Result (Unit {0}) BmpFault
@@ -68,16 +67,17 @@ fields_test header = do
 unfoldable pub palette_test : BmpHeader → List ℕ → Result (Unit {0}) BmpFault
 palette_test header bytes = length_test bytes (palette_start header + 4 * colours_of header)
 
--- the pixels are whole modules: the white space on both sides, and 1 to 151 modules between
-abbrev pub is_side : (unit white pixels : ℕ) → Bool
-is_side unit white pixels =
-    (pixels % unit == 0) && nat_lt (2 * white) (pixels / unit) && nat_le (pixels / unit) (2 * white + 151)
+-- the pixels are whole modules: the white space on both sides, and 1 to so many modules between
+abbrev pub is_side : (unit white most pixels : ℕ) → Bool
+is_side unit white most pixels =
+    (pixels % unit == 0) && nat_lt (2 * white) (pixels / unit) && nat_le (pixels / unit) (2 * white + most)
 
 -- both sides of the picture
-unfoldable pub size_test : Paint → BmpHeader → Result (Unit {0}) BmpFault
-size_test paint header =
+unfoldable pub size_test : Sampling → BmpHeader → Result (Unit {0}) BmpFault
+size_test sampling header =
     verdict
-    (is_side (unit_of paint) paint.white header.width && is_side (unit_of paint) paint.vwhite (pixels_high header))
+    (is_side sampling.unit sampling.white sampling.most header.width
+    && is_side sampling.unit sampling.vwhite sampling.most (pixels_high header))
     (BadSize header.width (pixels_high header))
 
 -- the rows stand in the file
@@ -85,16 +85,16 @@ unfoldable pub rows_test : BmpHeader → List ℕ → Result (Unit {0}) BmpFault
 rows_test header bytes = length_test bytes (header.pixels + row_size header * pixels_high header)
 
 -- the header of a file that passes all these tests, or the refusal of the first that it fails
-unfoldable pub header_read : Paint → List ℕ → Result BmpHeader BmpFault
-header_read paint bytes = do
+unfoldable pub header_read : Sampling → List ℕ → Result BmpHeader BmpFault
+header_read sampling bytes = do
   header ← front_read bytes
   fields ← fields_test header
   palette ← palette_test header bytes
-  sides ← size_test paint header
+  sides ← size_test sampling header
   rows ← rows_test header bytes
   Ok header
 
--- Both sides of the picture are whole modules, 1 to 151 of them between the white space.
-pub record HasSides (paint : Paint) (header : BmpHeader) : Type 0 where
-  pub across : is_side (unit_of paint) paint.white header.width ≡ true
-  pub down : is_side (unit_of paint) paint.vwhite (pixels_high header) ≡ true
+-- Both sides of the picture are whole modules, no more of them between the white space than are read.
+pub record HasSides (sampling : Sampling) (header : BmpHeader) : Type 0 where
+  pub across : is_side sampling.unit sampling.white sampling.most header.width ≡ true
+  pub down : is_side sampling.unit sampling.vwhite sampling.most (pixels_high header) ≡ true

@@ -85,9 +85,9 @@ pub(crate) fn colours(header: BmpHeader) -> u32
 /// The bytes of a row of pixels.
 pub(crate) fn row_size(header: BmpHeader) -> usize
     requires bits { header.bits ≤ 24 }
-    requires width { header.width ≤ 14040 }
+    requires width { header.width ≤ 48960 }
     ensures size { result ≡ row_size header }
-    ensures bounded { result ≤ 42120 }
+    ensures bounded { result ≤ 146880 }
 {
     (header.width as usize * header.bits as usize + 31) / 32 * 4
 }

@@ -9,10 +9,11 @@ mod pixels;
 mod pixels_read;
 mod reading;
 mod refusals;
+mod sampling;
 #[cfg(test)]
 mod tests;
 mod writing;
 
 pub use fault::{BmpFault, BmpField};
-pub use reading::read_bmp;
+pub use reading::{read_bmp, read_pixels};
 pub use writing::{stride, write_bmp};

@@ -1,33 +1,33 @@
 //! The pixels of a BMP that is read.
 ghost use Rattle.std.specs.Prelude.{◌≡◌, ◌≤◌, ◌<◌, ◌+◌, ◌*◌, ◌⊎◌, length};
-ghost use Rattle.bar_base.specs.Paint.{IsPaint};
 ghost use Rattle.bmp_io.specs.BmpHeader.{IsWhole, colours_of, palette_start, pixels_high, row_size, row_start};
 ghost use Rattle.bmp_io.specs.PixelsRead.{colour_index, colour_of, is_dark_at, pixel_at};
 ghost use Rattle.bmp_io.specs.ReadBmp.{module_seen, modules_across, modules_down, seen_or_refused};
 ghost use Rattle.bmp_io.specs.Refusals.{HasSides};
+ghost use Rattle.bmp_io.specs.Samplings.{IsSampling};
 
 use crate::bmp_header::{BmpHeader, colours, pixels_high, row_size};
 use crate::fault::{BmpFault, BmpField};
-use bar_base::{Paint, unit};
+use crate::sampling::Sampling;
 
 /// Whether the module in column `x` and row `y` is dark; a refusal where the index of its pixel is past the palette.
 #[tactic(auto, unfolding(crate::specs::ReadBmp::module_seen))]
 pub(crate) fn see(
-    paint: Paint,
+    sampling: Sampling,
     header: BmpHeader,
     bytes: &[u8],
     x: u32,
     y: u32,
 ) -> Result<bool, BmpFault>
-    requires paint { IsPaint paint }
+    requires sampling { IsSampling sampling }
     requires whole { IsWhole header bytes.now }
-    requires sides { HasSides paint header }
-    requires column { x < modules_across paint header }
-    requires row { y < modules_down paint header }
-    ensures { result ≡ seen_or_refused (module_seen paint header bytes.now x y) }
+    requires sides { HasSides sampling header }
+    requires column { x < modules_across sampling header }
+    requires row { y < modules_down sampling header }
+    ensures { result ≡ seen_or_refused (module_seen sampling header bytes.now x y) }
 {
-    let p = unit(paint) * (paint.white + x) + paint.scale;
-    let q = unit(paint) * (paint.vwhite + y) + paint.scale;
+    let p = sampling.unit * (sampling.white + x) + sampling.inset;
+    let q = sampling.unit * (sampling.vwhite + y) + sampling.inset;
     match pixel_at(header, bytes, p, q) {
         Some(dark) => Ok(dark),
         None => Err(BmpFault::Unsupported(BmpField::Palette)),

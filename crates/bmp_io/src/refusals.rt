@@ -1,26 +1,26 @@
 //! The tests of a BMP that is read, each with its refusal.
 ghost use Rattle.std.specs.Prelude.{◌≡◌, ◌≤◌, ◌<◌, ◌+◌, ◌*◌, ◌^◌, ◌⊎◌, true, length, IfOk, OnOk};
-ghost use Rattle.bar_base.specs.Paint.{IsPaint, unit_of};
 ghost use Rattle.bmp_io.specs.BmpHeader.{IsWhole, pixels_high, colours_of, palette_start, row_size};
 ghost use Rattle.bmp_io.specs.Refusals.{HasSides, front_read, fields_test, header_read, is_read_depth, is_read_height, is_read_size, is_read_width, is_side, length_test, names_colours, palette_test, rows_test, size_test, verdict};
+ghost use Rattle.bmp_io.specs.Samplings.{IsSampling};
 ghost use Rattle.bmp_io.specs.declared.fault.BmpFault.TheVariants as fault;
 
 use crate::bmp_header::{BmpHeader, colours, header_of, pixels_high, row_size};
 use crate::fault::{BmpFault, BmpField};
-use bar_base::{Paint, unit};
+use crate::sampling::Sampling;
 
 /// The header of a file that passes all tests of its header and its length, or the refusal of the first that it fails.
 #[tactic(auto, using(crate::proofs::Steps::stepping), unfolding(crate::specs::Refusals::header_read))]
-pub(crate) fn read_header(bytes: &[u8], paint: Paint) -> Result<BmpHeader, BmpFault>
-    requires { IsPaint paint }
-    ensures read { result ≡ header_read paint bytes.now }
+pub(crate) fn read_header(bytes: &[u8], sampling: Sampling) -> Result<BmpHeader, BmpFault>
+    requires { IsSampling sampling }
+    ensures read { result ≡ header_read sampling bytes.now }
     ensures whole { IfOk result (λ header. IsWhole header bytes.now) }
-    ensures sides { IfOk result (λ header. HasSides paint header) }
+    ensures sides { IfOk result (λ header. HasSides sampling header) }
 {
     let header = read_front(bytes)?;
     check_fields(header)?;
     check_palette(header, bytes)?;
-    check_size(paint, header)?;
+    check_size(sampling, header)?;
     check_rows(header, bytes)?;
     Ok(header)
 }
@@ -132,26 +132,27 @@ fn check_palette(header: BmpHeader, bytes: &[u8]) -> Result<(), BmpFault>
     )
 }
 
-/// Whether a side of so many pixels is whole modules, the white space and 1 to 151 modules between.
-fn is_side(unit: u32, white: u32, pixels: u32) -> bool
+/// Whether a side of so many pixels is whole modules, the white space and 1 to so many modules between.
+fn is_side(unit: u32, white: u32, most: u32, pixels: u32) -> bool
     requires unit { 0 < unit }
     requires white { white ≤ 100 }
-    ensures { result ≡ is_side unit white pixels }
+    requires most { most ≤ 1024 }
+    ensures { result ≡ is_side unit white most pixels }
 {
     let modules = pixels / unit;
-    pixels % unit == 0 && modules > 2 * white && modules <= 2 * white + 151
+    pixels % unit == 0 && modules > 2 * white && modules <= 2 * white + most
 }
 
-/// Refuses a picture whose sides are not those of a symbol of at most 151 modules with this paint.
+/// Refuses a picture whose sides are not whole modules, or have more of them than are read.
 #[tactic(auto, unfolding(crate::specs::Refusals::size_test))]
-fn check_size(paint: Paint, header: BmpHeader) -> Result<(), BmpFault>
-    requires { IsPaint paint }
-    ensures test { result ≡ size_test paint header }
-    ensures sides { OnOk result (HasSides paint header) }
+fn check_size(sampling: Sampling, header: BmpHeader) -> Result<(), BmpFault>
+    requires { IsSampling sampling }
+    ensures test { result ≡ size_test sampling header }
+    ensures sides { OnOk result (HasSides sampling header) }
 {
     let height = pixels_high(header);
-    if is_side(unit(paint), paint.white, header.width)
-        && is_side(unit(paint), paint.vwhite, height)
+    if is_side(sampling.unit, sampling.white, sampling.most, header.width)
+        && is_side(sampling.unit, sampling.vwhite, sampling.most, height)
     {
         return Ok(());
     }
@@ -162,8 +163,8 @@ fn check_size(paint: Paint, header: BmpHeader) -> Result<(), BmpFault>
 #[tactic(auto, unfolding(crate::specs::Refusals::rows_test))]
 fn check_rows(header: BmpHeader, bytes: &[u8]) -> Result<(), BmpFault>
     requires bits { header.bits ≤ 24 }
-    requires width { header.width ≤ 14040 }
-    requires height { pixels_high header ≤ 14040 }
+    requires width { header.width ≤ 48960 }
+    requires height { pixels_high header ≤ 48960 }
     ensures test { result ≡ rows_test header bytes.now }
     ensures within { OnOk result (header.pixels + row_size header * pixels_high header ≤ length bytes.now) }
 {

@@ -1,6 +1,6 @@
 ghost use Rattle.bar_base.specs.Paint.{IsPaint};
 
-use crate::{BmpFault, BmpField, read_bmp, stride, write_bmp};
+use crate::{BmpFault, BmpField, read_bmp, read_pixels, stride, write_bmp};
 use bar_base::{Grid, NoMemory, Paint, modules_high};
 use bar_memory::MemorySink;
 use std::alloc::{AllocError, Global};
@@ -139,6 +139,38 @@ fn colours_and_palettes_are_read(rt: HostRuntime) -> Result<(), Fail> {
     assert!(rt; is_as_painted(&read_bmp(rt.alloc(), &coloured, PLAIN)?));
     let indexed = file_of(rt.alloc(), 152, &INDEXED)?;
     assert!(rt; is_as_painted(&read_bmp(rt.alloc(), &indexed, PLAIN)?));
+    Ok(())
+}
+
+/// How many of the modules are light.
+fn light_count(grid: &Grid) -> u32 {
+    let mut count = 0_u32;
+    for n in 0..grid.width() * grid.rows() {
+        if !grid.dark(n % grid.width(), n / grid.width()) {
+            count = count.saturating_add(1);
+        }
+    }
+    count
+}
+
+#[test]
+fn every_pixel_is_read(rt: HostRuntime) -> Result<(), Fail> {
+    let mut bytes = file_of(rt.alloc(), 152, &INDEXED)?;
+    let grid = read_pixels(rt.alloc(), &bytes)?;
+    assert_eq!(rt; grid.width(), 4);
+    assert_eq!(rt; grid.rows(), 4);
+    assert_eq!(rt; light_count(&grid), 2);
+    assert!(rt; !grid.dark(1, 1));
+    assert!(rt; !grid.dark(3, 3));
+    if bytes.len() > 19 {
+        bytes[19] = 4;
+    }
+    assert!(rt;
+        matches!(
+            &read_pixels(rt.alloc(), &bytes),
+            Err(BmpFault::BadSize(1028, 4))
+        )
+    );
     Ok(())
 }
 

@@ -9,7 +9,7 @@ use Rattle.bar_base.specs.Stripes.{stripes}
 use Rattle.std.proofs.Math.Seq.{drop-cons}
 use Rattle.bar_base.proofs.StripeLaws.{sum-flat_map}
 use Rattle.code128_best.specs.declared.widths.TheConstants.{WIDTHS, STOP}
-use Rattle.code128_best.specs.Symbol.{place_weighted, check128, widths128, pattern128, bar_modules, symbol_widths128, HasCharacterShape}
+use Rattle.code128_best.specs.Symbol.{place_weighted, check128, widths128, pattern128, bar_modules, stop_widths128, symbol_widths128, HasCharacterShape}
 
 -- the check value
 pub weighted_more : (values : List ℕ) (place : ℕ) → place < length values
@@ -28,7 +28,7 @@ unfolding check128 place_weighted
 check_is [] some = absurd (omega arith)
 check_is (start ∷ values) some = ap (λ (n : ℕ). (start + n) % 103) (let e : place_weighted 1 values ≡ 0 * start + place_weighted 1 values = omega arith in e)
 
-pub weight_few : (place value : ℕ) → place < 769 → value ≤ 105 → place * value ≤ 80850
+pub weight_few : (place value : ℕ) → place < 16384 → value ≤ 105 → place * value ≤ 1720320
 weight_few place value few small = grind arith
 
 -- each value has 11 modules
@@ -72,11 +72,11 @@ few value =
     ]
 
 pub symbol_some : (values : List ℕ) → 1 ≤ sum (symbol_widths128 values)
-unfolding symbol_widths128
+unfolding symbol_widths128 stop_widths128
 symbol_some values = let joined = sum_by-append (λ (n : ℕ). n) (flat_map widths128 (values ++ check128 values ∷ [])) STOP in omega arith
 
 pub symbol_few : (values : List ℕ) → length values ≤ 769 → sum (symbol_widths128 values) ≤ 16384
-unfolding symbol_widths128
+unfolding symbol_widths128 stop_widths128
 symbol_few values short =
     let joined = sum_by-append (λ (n : ℕ). n) (flat_map widths128 (values ++ check128 values ∷ [])) STOP in
     let rest = sum-flat_map widths128 11 few (values ++ check128 values ∷ []) in

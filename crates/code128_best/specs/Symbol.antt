@@ -35,6 +35,10 @@ pub record HasCharacterShape (widths : List ℕ) : Type 0 where
   pub eleven : sum widths ≡ 11
   pub even : bar_modules widths % 2 ≡ 0
 
+-- The widths of the stop.
+unfoldable pub stop_widths128 : List ℕ
+stop_widths128 = STOP
+
 -- A symbol's widths: the values, the check value, the stop.
 unfoldable pub symbol_widths128 : List ℕ → List ℕ
-symbol_widths128 values = flat_map widths128 (values ++ check128 values ∷ []) ++ STOP
+symbol_widths128 values = flat_map widths128 (values ++ check128 values ∷ []) ++ stop_widths128

@@ -22,7 +22,7 @@ pub use code_fault::CodeFault;
 pub use drawing::{MOST_ELEMENTS, shortest};
 pub use effect::{Effect, Spelled, act};
 pub use state::{CodeSet, State};
-pub use symbol::{check, modules, pattern};
+pub use symbol::{check, check_of_values, modules, pattern};
 pub use values::Values;
 
 #[cfg(test)]

@@ -17,17 +17,17 @@ pub fn check(values: &Values) -> u8
     check_of_values(values.as_slice())
 }
 
-/// The check value of a start and the values after it.
-fn check_of_values(values: &[u8]) -> u8
+/// The check value of a start and the values after it, at most 16,384 in all, each at most 105.
+pub fn check_of_values(values: &[u8]) -> u8
     requires some { 1 ≤ length values.now }
-    requires few { length values.now ≤ 769 }
+    requires few { length values.now ≤ 16384 }
     requires small { All (λ value. value ≤ 105) values.now }
     ensures value { result ≡ check128 values.now }
     ensures small { result < 103 }
 {
-    let mut sum = u32::from(values[0]);
+    let mut sum = u64::from(values[0]);
     for (place, value) in values.iter().enumerate() {
-        sum += place as u32 * u32::from(*value);
+        sum += place as u64 * u64::from(*value);
     }
     (sum % 103) as u8
 }
@@ -53,7 +53,7 @@ pub fn pattern(value: u8) -> u16
 }
 
 /// The widths of the symbol.
-#[tactic(auto, unfolding(crate::specs::Symbol::symbol_widths128))]
+#[tactic(auto, unfolding(crate::specs::Symbol::symbol_widths128, crate::specs::Symbol::stop_widths128))]
 fn widths(alloc: Global, values: &[u8]) -> Result<Vec<u8>, NoMemory>
     requires some { 1 ≤ length values.now }
     requires few { length values.now ≤ 769 }

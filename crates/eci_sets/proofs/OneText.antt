@@ -6,7 +6,7 @@ use Rattle.std.proofs.Math.Utf8.{encode, encodes, scalar, scalars}
 use Rattle.std.proofs.lemmas.Bool.{and_parts}
 use Rattle.std.proofs.lemmas.List.{length-append, take-append-drop}
 use Rattle.std.proofs.lemmas.Str.{chars-encodes, encode_same, encodes_same, length-encode, len_utf8_bounds}
-use Rattle.bar_base.specs.Steps.{Gives}
+use Rattle.bar_base.specs.Results.{Gives}
 use Rattle.eci_sets.specs.CharacterSets.{character_bytes, encoding_of, has_character}
 use Rattle.eci_sets.specs.CodePages.{byte_for, character_for}
 use Rattle.eci_sets.specs.Encodings.{BeginsWith, Encoded, IsDecodingFault, IsEncodedIn, StopsAt, first_lacking, joined_bytes, set_refusal, text_encoding, unless_lacking}

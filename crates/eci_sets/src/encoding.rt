@@ -1,7 +1,7 @@
 //! From a text to the bytes of a set.
 ghost use Rattle.std.specs.Prelude.{◌≡◌, ℕ, List, find, IfOk, MatchResult, Some};
 ghost use Rattle.std.specs.Str.{chars};
-ghost use Rattle.bar_base.specs.Steps.{Gives};
+ghost use Rattle.bar_base.specs.Results.{Gives};
 ghost use Rattle.eci_sets.specs.CharacterSets.{set_numbered};
 ghost use Rattle.eci_sets.specs.Encodings.{Encoded, IsEncodedIn, chosen_eci, has_characters, set_refusal, text_encoding};
 ghost use Rattle.eci_sets.specs.declared.character_set.CharacterSet.TheVariants as set;

@@ -3,7 +3,7 @@ use Rattle.std.specs.Prelude.{ℕ, Bool, true, false, ◌+◌, ◌-◌, ◌*◌,
 use Rattle.std.specs.Char.{to_ascii_uppercase}
 use Rattle.std.specs.List.{flat_map}
 use Rattle.bar_base.specs.Picture.{Picture}
-use Rattle.bar_base.specs.Steps.{◌>>=◌}
+use Rattle.bar_base.specs.Results.{◌>>=◌}
 use Rattle.bar_base.specs.Text.{values_of_text}
 use Rattle.bar_base.specs.declared.linear.Linear.{Linear}
 use Rattle.bar_base.specs.declared.linear.LinearFault.{LinearFault}

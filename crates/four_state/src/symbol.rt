@@ -1,6 +1,6 @@
 //! The whole symbol.
 ghost use Rattle.std.specs.Prelude.{◌≡◌, ◌<◌, ◌≤◌, ◌++◌, All, Ok, IfOk, OnOk, length, map, vec_len};
-ghost use Rattle.bar_base.specs.Steps.{Gives};
+ghost use Rattle.bar_base.specs.Results.{Gives};
 ghost use Rattle.bar_base.specs.Text.{refusal_of};
 ghost use Rattle.four_state.specs.FourState.{row, column, spaced, rm4scc_modules, rm4scc_picture, rm4scc_symbol, rm4scc_of};
 

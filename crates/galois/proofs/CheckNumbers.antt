@@ -1,14 +1,14 @@
 -- from check words over a field to those over the numbers of its elements, and back
 use Rattle.std.proofs.Common.{◌≡◌, ℕ, ◌+◌, ◌-◌, ◌*◌, ◌^◌, ◌<◌, ◌≤◌, ◌↔◌, Bool, true, List, [], ◌∷◌, ◌++◌, length, drop, map, get_or, bit_xor, refl, sym, ap, ◌∙◌, subst, arith, length-append, length-drop}
-use Rattle.std.specs.Prelude.{All, ◌==◌, if◌then◌else◌}
+use Rattle.std.specs.Prelude.{All, ◌==◌, ◌||◌, if◌then◌else◌}
 use Rattle.std.proofs.lemmas.Bool.Decides.{same_from_decides, nat_tests}
 use Rattle.std.proofs.lemmas.List.{map-append, length-map, take-append-drop}
 use Rattle.std.proofs.lemmas.List.Elements.{All-map, All-drop, All-head, All-tail}
 use Rattle.std.proofs.Math.Seq.{take-append_seam}
 use Rattle.galois.specs.FieldLaws.{alpha_within, numbering_of, power_within, product_within, size_of, sum_within, zero_within}
 use Rattle.galois.specs.Polynomials.{IsPrimitive, product_of, power_of}
-use Rattle.galois.specs.CheckWord.{weighted_sum, check_sum, IsCheckWord, IsCheckOf, distance}
-use Rattle.galois.specs.CheckNumbers.{IsCheckWordIn, IsContinuation, apart}
+use Rattle.galois.specs.CheckWord.{weighted_sum, check_sum, IsCheckWord, IsCheckOf, distance, known_distance}
+use Rattle.galois.specs.CheckNumbers.{IsCheckWordIn, IsContinuation, apart, known_apart}
 use Rattle.galois.specs.Field.{IsNumbering}
 
 -- The numbers of elements carry the operations of a field to those on numbers.
@@ -121,3 +121,12 @@ module _ {A : Type 0} {bits poly order : ℕ} {value : A → ℕ} {nought : A} {
     apart-map (x ∷ v) (y ∷ w) =
         ap (λ (b : Bool). (if b then 0 else 1) + apart (map value v) (map value w)) (same_test x y)
         ∙ ap (λ (n : ℕ). (if equal x y then 0 else 1) + n) (apart-map v w)
+
+    pub known_apart-map : (lost : List Bool) (v w : List A) → known_apart lost (map value v) (map value w) ≡ known_distance equal lost v w
+    unfolding known_distance
+    known_apart-map [] v w = apart-map v w
+    known_apart-map (gone ∷ lost) [] w = refl
+    known_apart-map (gone ∷ lost) (x ∷ v) [] = refl
+    known_apart-map (gone ∷ lost) (x ∷ v) (y ∷ w) =
+        ap (λ (b : Bool). (if gone || b then 0 else 1) + known_apart lost (map value v) (map value w)) (same_test x y)
+        ∙ ap (λ (n : ℕ). (if gone || equal x y then 0 else 1) + n) (known_apart-map lost v w)

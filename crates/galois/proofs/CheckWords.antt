@@ -12,11 +12,11 @@ use Rattle.galois.proofs.Sums.{power_add, add_nought, mul_unit, scaled_weights, 
 use Rattle.galois.proofs.Moments.{moments_vanish}
 
 -- whether two elements differ, counted in either way
-turned : (b : Bool) (n : ℕ) → cond (not b) 1 0 + n ≡ (if b then 0 else 1) + n
+pub turned : (b : Bool) (n : ℕ) → cond (not b) 1 0 + n ≡ (if b then 0 else 1) + n
 turned true n = refl
 turned false n = refl
 
-at_most_one : (b : Bool) → (if b then 0 else 1) ≤ 1
+pub at_most_one : (b : Bool) → (if b then 0 else 1) ≤ 1
 at_most_one true = omega arith
 at_most_one false = omega arith
 
@@ -75,7 +75,7 @@ module _ {A : Type 0} {nought unit : A} {plus times : A → A → A} {inverse : 
       check_sum-word_sum v w (suc k) same ∙ rw (of_v, of_w) (add_self laws nought)
 
   module _ (equal : A → A → Bool) (decides : (a b : A) → Decides (equal a b) (a ≡ b)) where
-    sum_tells : (x y : A) → equal (plus x y) nought ≡ equal x y
+    pub sum_tells : (x y : A) → equal (plus x y) nought ≡ equal x y
     sum_tells x y =
         same_from_decides {P = x ≡ y} (equal (plus x y) nought) (equal x y)
         (λ is. same_from_sum laws x y ((decides (plus x y) nought).0 is), λ same. (decides (plus x y) nought).1 (rw same (add_self laws y)))

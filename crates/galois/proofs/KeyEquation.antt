@@ -5,14 +5,9 @@ use Rattle.std.specs.Bool.{Decides}
 use Rattle.std.proofs.lemmas.List.Sums.{sum_by-cons}
 use Rattle.galois.specs.Field.{IsField}
 use Rattle.galois.specs.CheckWord.{weighted_sum}
-use Rattle.galois.specs.Locator.{VanishesAt, nowhere, here_too}
+use Rattle.galois.specs.Locator.{VanishesAt, nowhere, here_too, scaled_word}
 use Rattle.galois.proofs.Sums.{nought_add, mul_nought, nought_mul, mul_unit, mul_comm, mul_assoc, mul_left, mul_cancel, raised, same_weights, sum_of_weights, scaled_weights}
 use Rattle.galois.proofs.Moments.{moments_vanish}
-
--- a word with each element times a factor of its place
-unfoldable pub scaled_word : {A : Type 0} (times : A → A → A) (factor : ℕ → A) → List A → List A
-scaled_word times factor [] = []
-scaled_word times factor (x ∷ word) = times x (factor (length word)) ∷ scaled_word times factor word
 
 module _ {A : Type 0} {nought unit : A} {plus times : A → A → A} {inverse : A → A} {power : ℕ → A} {order : ℕ} (laws : IsField nought unit plus times inverse power order) where
   pub length-scaled_word : (factor : ℕ → A) (w : List A) → length (scaled_word times factor w) ≡ length w
@@ -76,7 +71,7 @@ module _ {A : Type 0} {nought unit : A} {plus times : A → A → A} {inverse : 
     one_fewer a b false true is_a is_b kept =
         let contrary : false ≡ true = sym is_a ∙ (decides a nought).1 (kept ((decides b nought).0 is_b)) in (cc)
 
-    scaled_fewer : (factor : ℕ → A) (w : List A) → count_by (λ x. not (equal x nought)) (scaled_word times factor w) ≤ count_by (λ x. not (equal x nought)) w
+    pub scaled_fewer : (factor : ℕ → A) (w : List A) → count_by (λ x. not (equal x nought)) (scaled_word times factor w) ≤ count_by (λ x. not (equal x nought)) w
     unfolding scaled_word
     scaled_fewer factor [] = omega arith
     scaled_fewer factor (x ∷ w) =

@@ -4,6 +4,7 @@ pub mod Coefficients
 pub mod KeyEquation
 pub mod LocatorRoots
 pub mod Locators
+pub mod Lost
 pub mod Moments
 pub mod Roots
 pub mod StepLemmas

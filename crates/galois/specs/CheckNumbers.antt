@@ -1,7 +1,7 @@
 -- check words over the numbers of elements: for whoever speaks of codewords and mode words as numbers
-use Rattle.std.specs.Prelude.{◌≡◌, ℕ, ◌+◌, ◌*◌, ◌^◌, ◌<◌, ◌≤◌, ◌==◌, bit_xor, List, All, length, take, if◌then◌else◌}
+use Rattle.std.specs.Prelude.{◌≡◌, ℕ, ◌+◌, ◌*◌, ◌^◌, ◌<◌, ◌≤◌, ◌==◌, bit_xor, Bool, List, All, length, take, if◌then◌else◌}
 use Rattle.galois.specs.Polynomials.{product_of, power_of}
-use Rattle.galois.specs.CheckWord.{IsCheckWord, distance}
+use Rattle.galois.specs.CheckWord.{IsCheckWord, distance, known_distance, lost_count}
 
 -- The polynomial of the field of words of so many bits: 4 in the mode message, 6, 8, 10 or 12 in the codewords
 -- (ISO/IEC 24778, Reed-Solomon error correction).
@@ -30,9 +30,13 @@ pub record IsContinuation (bits poly : ℕ) (front : List ℕ) (count : ℕ) (wo
 abbrev pub apart : (word other : List ℕ) → ℕ
 apart word other = distance (λ a b. a == b) word other
 
--- A check word that differs from a word of its length at no more places than half of its check elements
--- (ISO/IEC 24778, Reed-Solomon error correction).
-pub record IsNearIn (bits poly count : ℕ) (word other : List ℕ) : Type 0 where
+-- The number of known places at which they differ, where a list tells which places are lost.
+abbrev pub known_apart : (lost : List Bool) (word other : List ℕ) → ℕ
+known_apart lost word other = known_distance (λ a b. a == b) lost word other
+
+-- A check word of a word's length, where twice the number of known places at which it differs and the number of lost places
+-- are together at most the number of its check elements (ISO/IEC 24778, Reed-Solomon error correction: errors and erasures).
+pub record IsNearIn (bits poly count : ℕ) (lost : List Bool) (word other : List ℕ) : Type 0 where
   pub long : length other ≡ length word
   pub check : IsCheckWordIn bits poly other count
-  pub near : 2 * apart word other ≤ count
+  pub near : 2 * known_apart lost word other + lost_count lost ≤ count

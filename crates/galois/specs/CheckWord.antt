@@ -1,5 +1,6 @@
 -- words of a Reed-Solomon code: check sums, check words, the check elements of a front, the distance of two words
-use Rattle.std.specs.Prelude.{◌≡◌, ℕ, ◌+◌, ◌*◌, ◌≤◌, Bool, if◌then◌else◌, List, [], ◌∷◌, ◌++◌, length}
+use Rattle.std.specs.Prelude.{◌≡◌, ℕ, ◌+◌, ◌*◌, ◌≤◌, ◌||◌, Bool, if◌then◌else◌, List, [], ◌∷◌, ◌++◌, length}
+use Rattle.std.specs.List.{count_by}
 
 -- The sum of a word's elements, each times the weight of its place. An element's place is the number of elements
 -- behind it: the exponent that it has where the word is read as a polynomial, its highest coefficient first.
@@ -41,3 +42,23 @@ pub record IsNear {A : Type 0} (nought : A) (plus times : A → A → A) (power 
   pub long : length other ≡ length word
   pub check : IsCheckWord nought plus times power other count
   pub near : 2 * distance equal word other ≤ count
+
+-- The number of known places at which two words of one length differ. A list tells which places are lost; behind its end all are known.
+unfoldable pub known_distance : {A : Type 0} (equal : A → A → Bool) → List Bool → List A → List A → ℕ
+known_distance equal [] word other = distance equal word other
+known_distance equal (gone ∷ lost) [] _ = 0
+known_distance equal (gone ∷ lost) (x ∷ word) [] = 0
+known_distance equal (gone ∷ lost) (x ∷ word) (y ∷ other) =
+    (if gone || equal x y then 0 else 1) + known_distance equal lost word other
+
+-- How many places are lost.
+abbrev pub lost_count : List Bool → ℕ
+lost_count lost = count_by (λ gone. gone) lost
+
+-- A check word of the word's length, where twice the number of known places at which it differs and the number of lost
+-- places are together at most the number of its check elements (ISO/IEC 24778, Reed-Solomon error correction: errors and
+-- erasures).
+pub record IsNearKnown {A : Type 0} (nought : A) (plus times : A → A → A) (power : ℕ → A) (equal : A → A → Bool) (count : ℕ) (lost : List Bool) (word other : List A) : Type 0 where
+  pub long : length other ≡ length word
+  pub check : IsCheckWord nought plus times power other count
+  pub near : 2 * known_distance equal lost word other + lost_count lost ≤ count

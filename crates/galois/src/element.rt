@@ -18,9 +18,21 @@ use std::marker::PhantomData;
 /// number has the coefficient of the power k of x as its bit k. Sums are exclusive-ors, products are reduced by
 /// `P`, and alpha is the polynomial x. (ISO/IEC 24778, Reed-Solomon error correction.)
 pub struct Gf<P: Poly> {
-    number: u32,
+    number: u16,
     of: PhantomData<P>,
     ghost in_range: { number ≤ P.ORDER },
+}
+
+// The element of a number.
+#[inline]
+fn numbered<P: Poly>(number: u32) -> Gf<P>
+    requires { number ≤ P.ORDER }
+    ensures { result.number ≡ number }
+{
+    Gf {
+        number: number as u16,
+        of: PhantomData,
+    }
 }
 
 impl<P: Poly> fmt::Debug for Gf<P> {
@@ -107,10 +119,7 @@ impl<P: Poly> Field for Gf<P> {
     }
 
     fn alpha(k: u32) -> Gf<P> {
-        Gf {
-            number: power::<P>(2, k % P::ORDER),
-            of: PhantomData,
-        }
+        numbered(power::<P>(2, k % P::ORDER))
     }
 
     fn add(self, other: Gf<P>) -> Gf<P> {
@@ -121,31 +130,25 @@ impl<P: Poly> Field for Gf<P> {
     }
 
     fn mul(self, other: Gf<P>) -> Gf<P> {
-        Gf {
-            number: product::<P>(self.number, other.number),
-            of: PhantomData,
-        }
+        numbered(product::<P>(
+            u32::from(self.number),
+            u32::from(other.number),
+        ))
     }
 
     fn inv(self) -> Gf<P> {
-        Gf {
-            number: power::<P>(self.number, P::ORDER - 1),
-            of: PhantomData,
-        }
+        numbered(power::<P>(u32::from(self.number), P::ORDER - 1))
     }
 
     fn number(self) -> u32 {
-        self.number
+        u32::from(self.number)
     }
 
     fn from_number(n: u32) -> Option<Gf<P>> {
         if n > P::ORDER {
             None
         } else {
-            Some(Gf {
-                number: n,
-                of: PhantomData,
-            })
+            Some(numbered(n))
         }
     }
 

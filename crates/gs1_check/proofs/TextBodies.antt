@@ -7,7 +7,7 @@ use Rattle.std.proofs.lemmas.Bool.{eq-eqb, eqb-true, and_parts}
 use Rattle.std.proofs.lemmas.List.{take-append-drop}
 use Rattle.std.proofs.lemmas.List.Elements.{All-cons, All-tail}
 use Rattle.bar_base.specs.declared.element.Element.{Element}
-use Rattle.bar_base.specs.Steps.{Gives}
+use Rattle.bar_base.specs.Results.{Gives}
 use Rattle.gs1_check.specs.Sections.{opening_bracket, section_fault}
 use Rattle.gs1_check.specs.ElementStrings.{IsElementString, ElementString, HasBody, body_of, first_fault, section_string, text_strings, sections, text_fault, string_text, gs1_refusal, text_body, unless_faulty}
 use Rattle.gs1_check.specs.declared.brackets.Brackets.{Brackets}

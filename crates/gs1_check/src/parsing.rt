@@ -1,7 +1,7 @@
 //! From a text to the body of its element strings.
 ghost use Rattle.std.specs.Prelude.{◌≡◌, ◌==◌, ◌++◌, ◌<◌, ◌+◌, ◌≤◌, List, Some, None, IfOk, IfSome, MatchResult, OnOk, length, map};
 ghost use Rattle.std.specs.List.{position, position_or_len};
-ghost use Rattle.bar_base.specs.Steps.{Gives};
+ghost use Rattle.bar_base.specs.Results.{Gives};
 ghost use Rattle.bar_base.specs.declared.element.Element.{Element as ElementValue};
 ghost use Rattle.bar_base.specs.declared.element.Element.TheVariants as element;
 ghost use Rattle.gs1_check.specs.ElementStrings.{HasBody, brackets_of, gs1_refusal, needs_separator, section_at, section_string, separator, string_elements, text_body};

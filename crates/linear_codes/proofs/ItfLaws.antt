@@ -1,5 +1,5 @@
 -- Bars and spaces in turn, one pair more at a time, and how many modules they have.
-use Rattle.std.proofs.Common.{◌≡◌, ℕ, suc, ◌+◌, ◌-◌, ◌*◌, ◌<◌, ◌≤◌, inl, inr, List, [], ◌∷◌, ◌++◌, length, map, take, drop, slice_index, ◌^◌, sum, ◌==◌, mul-suc, true, false, if◌then◌else◌, refl, sym, ap, ◌∙◌, arith, append_assoc}
+use Rattle.std.proofs.Common.{◌≡◌, ℕ, suc, ◌+◌, ◌-◌, ◌*◌, ◌<◌, ◌≤◌, inl, inr, List, [], ◌∷◌, ◌++◌, length, map, take, drop, replicate, slice_index, ◌^◌, sum, ◌==◌, mul-suc, Bool, true, false, if◌then◌else◌, refl, sym, ap, ◌∙◌, arith, append_assoc}
 use Rattle.std.proofs.lemmas.List.{get_or_past, append-nil, take_all, drop_all, length-append}
 use Rattle.std.proofs.Math.Seq.{drop-cons}
 use Rattle.std.proofs.Math.Nat.{pow-le-pow_right}
@@ -8,7 +8,8 @@ use Rattle.std.proofs.lemmas.Bool.{cases_lt, agree_below, agree_below_at, eqb-tr
 use Rattle.std.proofs.lemmas.List.Sums.{sum_by-cons}
 use mir.Val.{bool_byte}
 use Rattle.bar_base.specs.Bits.{number_after}
-use Rattle.bar_base.proofs.StripeLaws.{bit_is}
+use Rattle.bar_base.specs.Stripes.{stripes}
+use Rattle.bar_base.proofs.StripeLaws.{bit_is, number_after-append}
 use Rattle.linear_codes.specs.Itf14.{digit_elements, is_wide, element_width, in_turn, digit_pairs, symbol_widths14}
 use Rattle.linear_codes.specs.declared.itf14_table.TheConstants.{ELEMENTS, START, STOP}
 
@@ -143,3 +144,58 @@ symbol14_few digits few =
     let joined = length-append (START ++ digit_pairs digits) STOP in
     let front = length-append START (digit_pairs digits) in
     omega arith
+
+-- A number with the digits of one element more.
+pub wide_digits : (number : ℕ) (dark : Bool) → number * 8 + bool_byte dark * 7 ≡ number_after number (replicate 3 dark)
+unfolding number_after
+wide_digits number true = let e : number * 8 + 7 ≡ ((number * 2 + 1) * 2 + 1) * 2 + 1 = omega arith in e
+wide_digits number false = let e : number * 8 + 0 ≡ ((number * 2 + 0) * 2 + 0) * 2 + 0 = omega arith in e
+
+pub narrow_digits : (number : ℕ) (dark : Bool) → number * 2 + bool_byte dark ≡ number_after number (replicate 1 dark)
+unfolding number_after
+narrow_digits number dark = ap (λ (n : ℕ). number * 2 + n) (bit_is dark)
+
+-- The digits of a bar and of the space behind it, and of the rest.
+pub pair_digits : (number with_bar new all bar space : ℕ) (bars spaces : List ℕ)
+    → number_after number (stripes true (map element_width (in_turn (bar ∷ bars) (space ∷ spaces)))) ≡ all
+    → with_bar ≡ number_after number (replicate (element_width bar) true) → new ≡ number_after with_bar (replicate (element_width space) false)
+    → number_after new (stripes true (map element_width (in_turn bars spaces))) ≡ all
+unfolding stripes in_turn
+pair_digits number with_bar new all bar space bars spaces is first second =
+    let rest = stripes true (map element_width (in_turn bars spaces)) in
+    let spaced = replicate (element_width space) false in
+    ap (λ (n : ℕ). number_after n rest) second
+    ∙ sym (number_after-append spaced with_bar rest)
+    ∙ ap (λ (n : ℕ). number_after n (spaced ++ rest)) first
+    ∙ sym (number_after-append (replicate (element_width bar) true) number (spaced ++ rest))
+    ∙ is
+
+pub pair_more : (number with_bar new all : ℕ) (bars spaces : List ℕ) (i : ℕ) → i < length bars → i < length spaces
+    → number_after number (stripes true (map element_width (in_turn (drop i bars) (drop i spaces)))) ≡ all
+    → with_bar ≡ number_after number (replicate (element_width (slice_index bars i)) true)
+    → new ≡ number_after with_bar (replicate (element_width (slice_index spaces i)) false)
+    → number_after new (stripes true (map element_width (in_turn (drop (i + 1) bars) (drop (i + 1) spaces)))) ≡ all
+pair_more number with_bar new all bars spaces i in_bars in_spaces is first second =
+    pair_digits number with_bar new all (slice_index bars i) (slice_index spaces i) (drop (i + 1) bars) (drop (i + 1) spaces)
+    (ap (λ (xs : List ℕ). number_after number (stripes true (map element_width (in_turn xs (slice_index spaces i ∷ drop (i + 1) spaces))))) (sym (here bars i in_bars))
+    ∙ ap (λ (xs : List ℕ). number_after number (stripes true (map element_width (in_turn (drop i bars) xs)))) (sym (here spaces i in_spaces))
+    ∙ is)
+    first second
+
+pub pair_end : (number all : ℕ) (bars spaces : List ℕ) (i : ℕ) → length bars ≤ i
+    → number_after number (stripes true (map element_width (in_turn (drop i bars) (drop i spaces)))) ≡ all → number ≡ all
+unfolding number_after stripes in_turn
+pair_end number all bars spaces i past is =
+    ap (λ (xs : List ℕ). number_after number (stripes true (map element_width (in_turn xs (drop i spaces))))) (sym (drop_all i bars past)) ∙ is
+
+pub pair_room : (i : ℕ) → i < 5 → 64 ^ i ≤ 16777216
+pair_room i small = pow-le-pow_right {n = 64} (omega arith) {i = i} {j = 4} (omega arith)
+
+pub pair_room_more : (i : ℕ) → 64 ^ (i + 1) ≡ 64 ^ i * 64
+pair_room_more i = pow-add 64 i 1
+
+pub width_narrow : (element : ℕ) → (element == 2) ≡ false → element_width element ≡ 1
+width_narrow element is = ap (λ (b : Bool). if b then 3 else 1) is
+
+pub width_wide : (element : ℕ) → element ≡ 2 → element_width element ≡ 3
+width_wide element is = ap element_width is

@@ -1,9 +1,9 @@
 -- ITF-14: interleaved 2 of 5 (ISO/IEC 16390) of fourteen digits, the last of which is a check digit (GS1 General Specifications).
-use Rattle.std.specs.Prelude.{ℕ, Bool, ◌-◌, ◌==◌, ◌&&◌, List, [], ◌∷◌, ◌++◌, length, take, map, replicate, slice_index, slice_index_or, nat_le, Result, Ok, Err, if◌then◌else◌}
+use Rattle.std.specs.Prelude.{ℕ, Bool, true, ◌-◌, ◌==◌, ◌&&◌, List, [], ◌∷◌, ◌++◌, length, take, map, replicate, slice_index, slice_index_or, nat_le, Result, Ok, Err, if◌then◌else◌}
 use Rattle.bar_base.specs.Bits.{number_after}
 use Rattle.bar_base.specs.CheckDigit.{check_digit}
-use Rattle.bar_base.specs.Stripes.{row_picture}
-use Rattle.bar_base.specs.Steps.{◌>>=◌}
+use Rattle.bar_base.specs.Stripes.{row_picture, stripes}
+use Rattle.bar_base.specs.Results.{◌>>=◌}
 use Rattle.bar_base.specs.Text.{values_of_text}
 use Rattle.bar_base.specs.declared.linear.Linear.{Linear}
 use Rattle.bar_base.specs.declared.linear.LinearFault.{LinearFault}
@@ -32,6 +32,10 @@ unfoldable pub in_turn : (bars spaces : List ℕ) → List ℕ
 in_turn [] spaces = []
 in_turn (bar ∷ bars) [] = bar ∷ bars
 in_turn (bar ∷ bars) (space ∷ spaces) = bar ∷ space ∷ in_turn bars spaces
+
+-- The modules of a pair of digits as a number, dark as 1.
+unfoldable pub pair_pattern_of : (first second : ℕ) → ℕ
+pair_pattern_of first second = number_after 0 (stripes true (map element_width (in_turn (digit_elements first) (digit_elements second))))
 
 -- The elements of pairs of digits, the first digit of each in its bars, the second in its spaces.
 unfoldable pub digit_pairs : (digits : List ℕ) → List ℕ

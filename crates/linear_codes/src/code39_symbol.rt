@@ -1,6 +1,6 @@
 //! Code 39 and its extended form.
 ghost use Rattle.std.specs.Prelude.{◌≡◌, ◌<◌, ◌≤◌, ◌++◌, All, Ok, IfOk, length};
-ghost use Rattle.bar_base.specs.Steps.{Gives};
+ghost use Rattle.bar_base.specs.Results.{Gives};
 ghost use Rattle.bar_base.specs.Text.{refusal_of};
 ghost use Rattle.linear_codes.specs.Code39.{values39, values39_full, check39, checks39, symbol_widths39, symbol39, code39_of, code39_full_of};
 
@@ -56,6 +56,15 @@ impl Characters for Extended {
             )
         }
     }
+}
+
+/// The values of the one or two characters of a byte in extended Code 39, each below 43; none from byte 128 on (ISO/IEC 16388, full
+/// ASCII character set).
+pub fn values39_full(byte: u8) -> Short<2>
+    ensures values { result ≡ values39_full byte }
+    ensures bounded { All (λ value. value < 43) result }
+{
+    Extended::values(byte)
 }
 
 /// The symbol of a text of at most 85 characters of Code 39 (ISO/IEC 16388), lower-case letters being raised, with a check character

@@ -1,7 +1,7 @@
 //! Code 93.
 ghost use Rattle.std.specs.Prelude.{◌≡◌, ◌<◌, ◌≤◌, ◌++◌, All, OnOk, IfOk, length, vec_len};
 ghost use Rattle.bar_base.specs.Stripes.{row_picture};
-ghost use Rattle.bar_base.specs.Steps.{Gives};
+ghost use Rattle.bar_base.specs.Results.{Gives};
 ghost use Rattle.bar_base.specs.Text.{refusal_of};
 ghost use Rattle.linear_codes.specs.Code93.{values93, weighted_check, checks93, symbol_widths93, code93_of};
 
@@ -40,6 +40,14 @@ impl Characters for Ascii {
     }
 }
 
+/// The values of the one or two characters of a byte in Code 93, each below 47; none from byte 128 on (AIM Code 93).
+pub fn values93(byte: u8) -> Short<2>
+    ensures values { result ≡ values93 byte }
+    ensures bounded { All (λ value. value < 47) result }
+{
+    Ascii::values(byte)
+}
+
 /// The symbol of a text of at most 107 bytes of ASCII in Code 93 (AIM Code 93), with the check characters C and K.
 /// `BadCharacter` names the first other byte, and `TooLong` comes after that test.
 #[tactic(auto, unfolding(crate::specs::Code93::code93_of, crate::specs::Code93::symbol93))]
@@ -47,16 +55,16 @@ pub fn code93(alloc: Global, text: &[u8]) -> Result<Linear, LinearFault>
     ensures { Gives refusal_of (λ drawn. drawn) result (code93_of text.now) }
 {
     let mut values = values_of_text::<Ascii>(alloc, text, CODE93_MOST_BYTES)?;
-    let checks = push_checks(&mut values)?;
+    let checks = push_checks93(&mut values)?;
     let grid = picture(alloc, &values)?;
     Ok(Linear { grid, checks })
 }
 
-/// Puts the check characters at the end, and answers them.
+/// Puts the check characters C and K of at most 16,384 values at their end, and answers them.
 #[tactic(auto, unfolding(crate::specs::Code93::checks93))]
-fn push_checks(values: &mut Vec<u8>) -> Result<Short<2>, NoMemory>
+pub fn push_checks93(values: &mut Vec<u8>) -> Result<Short<2>, NoMemory>
     requires bounded { All (λ value. value < 47) values.old.items }
-    requires few { vec_len values.old ≤ 214 }
+    requires few { vec_len values.old ≤ 16384 }
     ensures checks { IfOk result (λ checks. checks ≡ checks93 values.old.items) }
     ensures pushed { OnOk result (values.new.items ≡ values.old.items ++ checks93 values.old.items) }
     ensures bounded { OnOk result (All (λ value. value < 47) values.new.items) }
@@ -76,7 +84,7 @@ fn push_checks(values: &mut Vec<u8>) -> Result<Short<2>, NoMemory>
 fn check(values: &[u8], most: usize) -> u8
     requires some { 1 ≤ most }
     requires small { most ≤ 20 }
-    requires few { length values.now ≤ 300 }
+    requires few { length values.now ≤ 16385 }
     ensures value { result ≡ weighted_check most values.now }
     ensures bounded { result < 47 }
 {

@@ -1,6 +1,6 @@
 //! ITF-14.
 ghost use Rattle.std.specs.Prelude.{◌≡◌, ◌<◌, ◌≤◌, ◌++◌, All, Ok, OnOk, IfOk, length, vec_len};
-ghost use Rattle.bar_base.specs.Steps.{Gives};
+ghost use Rattle.bar_base.specs.Results.{Gives};
 ghost use Rattle.bar_base.specs.Text.{refusal_of};
 ghost use Rattle.linear_codes.specs.Itf14.{digit_values, thirteen, filled_to_thirteen, element_width, in_turn, digit_pairs, symbol_widths14, symbol14, itf14_of};
 

@@ -1,6 +1,7 @@
 //! The bars and spaces of interleaved 2 of 5.
-ghost use Rattle.std.specs.Prelude.{◌≡◌, ℕ, ◌≤◌, length};
-ghost use Rattle.linear_codes.specs.Itf14.{digit_elements, pattern_itf_of};
+ghost use Rattle.std.specs.Prelude.{◌≡◌, ℕ, ◌+◌, ◌*◌, ◌^◌, ◌<◌, ◌≤◌, length, replicate};
+ghost use Rattle.bar_base.specs.Bits.{number_after};
+ghost use Rattle.linear_codes.specs.Itf14.{digit_elements, element_width, pattern_itf_of, pair_pattern_of};
 ghost use Rattle.linear_codes.specs.Structure.{IsTwoOfFive};
 
 /// The five elements of each digit, 1 narrow and 2 wide (ISO/IEC 16390, symbol characters).
@@ -47,4 +48,36 @@ pub fn pattern_itf(digit: u8) -> u8
         number = number * 2 + u8::from(*element == 2);
     }
     number
+}
+
+/// The eighteen modules of two digits as a number, whose binary digits from the left are the modules, dark as 1: the bars are those of
+/// the first digit, the spaces those of the second (ISO/IEC 16390, symbol structure). Both are at most 9.
+#[tactic(auto, unfolding(crate::specs::Itf14::pair_pattern_of))]
+pub fn pattern_pair(first: u8, second: u8) -> u32
+    requires first { first ≤ 9 }
+    requires second { second ≤ 9 }
+    ensures modules { result ≡ pair_pattern_of first second }
+{
+    let bars = digit_elements(first);
+    let spaces = digit_elements(second);
+    let mut number = 0;
+    for (place, bar) in bars.iter().enumerate() {
+        let with_bar = with_element(number, *bar, true);
+        number = with_element(with_bar, spaces[place], false);
+    }
+    number
+}
+
+/// A number with the binary digits of a bar or a space behind its own.
+fn with_element(number: u32, element: u8, dark: bool) -> u32
+    requires { number < 2 ^ 29 }
+    ensures digits { result ≡ number_after number (replicate (element_width element) dark) }
+    ensures bounded { result + 1 ≤ (number + 1) * 8 }
+{
+    let digit = u32::from(dark);
+    if element == 2 {
+        number * 8 + digit * 7
+    } else {
+        number * 2 + digit
+    }
 }

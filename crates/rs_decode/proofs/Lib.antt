@@ -8,6 +8,7 @@ pub mod Places
 pub mod Values
 pub mod Mending
 pub mod FedSyndromes
+pub mod Lowering
 pub mod Nearest
 pub mod Distances
 pub mod Outcomes

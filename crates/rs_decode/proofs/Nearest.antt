@@ -1,16 +1,18 @@
 -- the only check word that can be near is what the decoder finds
-use Rattle.std.proofs.Common.{◌≡◌, ℕ, zero, suc, ◌+◌, ◌*◌, ◌/◌, ◌-◌, ◌<◌, ◌≤◌, sym, ◌∙◌, ap, refl, arith, List, [], ◌∷◌, length, get_or, take, drop, Bool, not, add-one, add-zero, zero-add}
+use Rattle.std.proofs.Common.{◌≡◌, ℕ, zero, suc, ◌+◌, ◌/◌, ◌-◌, ◌<◌, ◌≤◌, sym, ◌∙◌, ap, refl, arith, List, [], ◌∷◌, length, get_or, take, drop, Bool, not, add-one, add-zero, zero-add}
 use Rattle.std.specs.List.{count_by}
 use Rattle.std.specs.Bool.{Decides}
 use Rattle.std.proofs.lemmas.List.{length-drop, ext_get_or, get_or-take}
 use Rattle.galois.specs.Field.{IsField}
-use Rattle.galois.specs.CheckWord.{check_sum, distance, word_sum, IsNear}
-use Rattle.galois.specs.Locator.{VanishesAt, IsLocator, locator_value, IsFalling}
+use Rattle.galois.specs.CheckWord.{check_sum, lost_count, word_sum, IsNearKnown}
+use Rattle.galois.specs.Locator.{VanishesAt, IsLocator, locator_value, IsFalling, beside_lost, scaled_word}
 use Rattle.galois.proofs.Sums.{length-word_sum, add_again, add_nought}
-use Rattle.galois.proofs.CheckWords.{check_sum-word_sum, distance-word_sum}
+use Rattle.galois.proofs.CheckWords.{check_sum-word_sum}
+use Rattle.galois.proofs.KeyEquation.{length-scaled_word}
+use Rattle.galois.proofs.Lost.{scaled_known, vanishes_beside}
 use Rattle.galois.proofs.Locators.{located_vanishes}
 use Rattle.galois.proofs.LocatorRoots.{few_places}
-use Rattle.rs_decode.specs.Syndromes.{AreSyndromes}
+use Rattle.rs_decode.specs.Syndromes.{AreSyndromes, AreLowered}
 use Rattle.rs_decode.specs.Search.{AreSearched, AreErrorPlaces}
 use Rattle.rs_decode.specs.Values.{IsErrorAt, power_sum, power_sums}
 use Rattle.rs_decode.proofs.Places.{power_sum-error}
@@ -38,30 +40,35 @@ module _ {A : Type 0} {nought unit : A} {plus times : A → A → A} {inverse : 
       power_sums_at places values (suc from) count k d (omega arith) ∙ ap (power_sum nought plus times power places values) (let e : suc from + k ≡ from + suc k = omega arith in e)
 
   module _ (equal : A → A → Bool) (decides : (a b : A) → Decides (equal a b) (a ≡ b)) where
-    pub nearest_is : (word other syndromes fixed : List A) (places : List ℕ) → length word ≤ order → length syndromes ≤ length word →
-        IsNear nought plus times power equal (length syndromes) word other →
+    pub nearest_is : (word other syndromes left fixed : List A) (lost : List Bool) (places : List ℕ) → length word ≤ order → length syndromes ≤ length word →
+        IsNearKnown nought plus times power equal (length syndromes) lost word other →
         AreSyndromes nought plus times power word syndromes →
-        AreErrorPlaces nought plus times power syndromes (length word) places → length places ≤ length syndromes →
+        length left + lost_count lost ≡ length syndromes → AreLowered nought plus times power (length word) lost syndromes left →
+        AreErrorPlaces nought plus times power left lost (length word) places → length places ≤ length syndromes →
         ((bound : ℕ) (values error : List A) → IsFalling bound places → bound ≤ order →
         take (length places) syndromes ≡ power_sums nought plus times power places values 0 (length places) →
         IsErrorAt nought times power places values error → length error ≡ length word → fixed ≡ word_sum plus word error) →
         other ≡ fixed
-    nearest_is word other syndromes fixed places fits few near are found enough mends =
-        let c : ℕ = length syndromes in
-        let half : ℕ = length syndromes / 2 in
+    nearest_is word other syndromes left fixed lost places fits few near are counted low found enough mends =
+        let half : ℕ = length left / 2 in
         let error : List A = word_sum plus word other in
+        let masked : List A = scaled_word times low.factor error in
         let same : length word ≡ length other = sym near.long in
         let long : length error ≡ length word = length-word_sum laws word other same ∙ near.long in
         let sums : (k : ℕ) → 1 ≤ k → k ≤ length syndromes → check_sum nought plus times power word k ≡ check_sum nought plus times power error k =
-        λ k low high. sym (check_sum-word_sum laws word other k same ∙ ap (plus (check_sum nought plus times power word k)) (near.check.root k low high) ∙ add_nought laws (check_sum nought plus times power word k)) in
+        λ k least most. sym (check_sum-word_sum laws word other k same ∙ ap (plus (check_sum nought plus times power word k)) (near.check.root k least most) ∙ add_nought laws (check_sum nought plus times power word k)) in
         let at : (t : ℕ) → t < length syndromes → get_or syndromes t nought ≡ check_sum nought plus times power error (suc t) =
         λ t below. are.sum t below ∙ ap (check_sum nought plus times power word) (add-one t) ∙ sums (suc t) (omega arith) (omega arith) in
-        let wrong : count_by (λ x. not (equal x nought)) error ≤ half =
-        let e : count_by (λ x. not (equal x nought)) error ≡ distance equal word other = distance-word_sum laws equal decides word other same in
-        let n : 2 * distance equal word other ≤ length syndromes = near.near in
-        omega (arith, e, n) in
-        let vanishes : VanishesAt nought (locator_value nought plus times power found.locator) error =
-        located_vanishes laws equal decides (λ t. get_or syndromes t nought) half found.locator error found.locates (omega (arith, long)) (λ t below. at t (omega (arith, below))) wrong in
+        let of_masked : AreSyndromes nought plus times power masked left =
+        low.sums error (record { sum = λ k below. at k below ∙ ap (check_sum nought plus times power error) (sym (add-one k)) }) in
+        let wrong : count_by (λ x. not (equal x nought)) masked ≤ half =
+        omega (arith, scaled_known laws equal decides lost low.factor word other same low.at_lost, near.near, counted) in
+        let masked_vanishes : VanishesAt nought (locator_value nought plus times power found.locator) masked =
+        located_vanishes laws equal decides (λ t. get_or left t nought) half found.locator masked found.locates
+        (omega (arith, long, length-scaled_word laws low.factor error, fits))
+        (λ t below. of_masked.sum t (omega (arith, below)) ∙ ap (check_sum nought plus times power masked) (add-one t)) wrong in
+        let vanishes : VanishesAt nought (beside_lost nought (length word) lost (locator_value nought plus times power found.locator)) error =
+        vanishes_beside laws (length word) lost low.factor (locator_value nought plus times power found.locator) error (omega (arith, long)) low.at_known masked_vanishes in
         let (values, is) = found.searched.errors.finds error long vanishes in
         let sums_are : take (length places) syndromes ≡ power_sums nought plus times power places values 0 (length places) =
         ext_get_or nought (take (length places) syndromes) (power_sums nought plus times power places values 0 (length places))
@@ -71,10 +78,11 @@ module _ {A : Type 0} {nought unit : A} {plus times : A → A → A} {inverse : 
         sym (power_sums_at places values 0 (length places) k nought below' ∙ ap (power_sum nought plus times power places values) (zero-add k))) in
         sym (mends (length word) values error found.searched.falling fits sums_are is long ∙ added_twice word other near.long)
 
-    pub count_few : (series : ℕ → A) (half : ℕ) (locator : List A) (bound : ℕ) (places : List ℕ) (count long : ℕ) → IsLocator nought plus times series half locator →
-        AreSearched nought plus times power locator bound (drop (long - count) places) → bound ≤ order → length places ≡ long → count ≤ long → count ≤ half
-    count_few series half locator bound places count long locates searched fits same within =
+    pub count_few : (series : ℕ → A) (half : ℕ) (locator : List A) (bound : ℕ) (lost : List Bool) (places : List ℕ) (count long : ℕ) → IsLocator nought plus times series half locator →
+        AreSearched nought times power (beside_lost nought bound lost (locator_value nought plus times power locator)) bound (drop (long - count) places) →
+        bound ≤ order → length places ≡ long → count ≤ long → count ≤ lost_count lost + half
+    count_few series half locator bound lost places count long locates searched fits same within =
         let e : length (drop (long - count) places) ≡ length places - (long - count) = length-drop (long - count) places in
-        let f : length (drop (long - count) places) < length locator = few_places laws equal decides locator bound (drop (long - count) places) fits locates.some searched.falling searched.roots in
-        let h : length locator ≤ half + 1 = locates.short in
-        omega (arith, e, f, h)
+        let f : length (drop (long - count) places) < length locator + lost_count lost =
+        few_places laws equal decides locator bound lost (drop (long - count) places) fits locates.some searched.falling searched.roots in
+        omega (arith, e, f, locates.short)

@@ -5,7 +5,7 @@ use Rattle.std.specs.Bool.{Decides}
 use Rattle.galois.specs.Field.{IsField}
 use Rattle.galois.specs.CheckWord.{weighted_sum, check_sum}
 use Rattle.galois.proofs.Sums.{nought_add, nought_mul, power_add, mul_assoc}
-use Rattle.galois.specs.Locator.{VanishesAt, here_too, locator_value, IsFalling, no_places, place_below}
+use Rattle.galois.specs.Locator.{VanishesAt, here_too, IsFalling, no_places, place_below}
 use Rattle.galois.proofs.LocatorRoots.{falling_more}
 use Rattle.std.proofs.Math.Nat.{suc-mul}
 use Rattle.std.proofs.lemmas.Bool.{cases_Bool}
@@ -22,60 +22,60 @@ All-more P m places here rest (suc k) d below = rest k d (omega arith)
 module _ {A : Type 0} {nought unit : A} {plus times : A → A → A} {inverse : A → A} {power : ℕ → A} {order : ℕ} (laws : IsField nought unit plus times inverse power order) where
   module _ (equal : A → A → Bool) (decides : (a b : A) → Decides (equal a b) (a ≡ b)) where
     -- the values of an error
-    abbrev Found : List A → ℕ → List ℕ → Type 0
-    Found locator n places = (error : List A) → length error ≡ n → VanishesAt nought (locator_value nought plus times power locator) error →
+    abbrev Found : (ℕ → A) → ℕ → List ℕ → Type 0
+    Found value n places = (error : List A) → length error ≡ n → VanishesAt nought value error →
         (values : List A) × IsErrorAt nought times power places values error
 
-    pub found_none : (locator : List A) → Found locator 0 []
-    found_none locator [] long _ = ([], none)
-    found_none locator (x ∷ error) long _ = absurd (omega arith)
+    pub found_none : (value : ℕ → A) → Found value 0 []
+    found_none value [] long _ = ([], none)
+    found_none value (x ∷ error) long _ = absurd (omega arith)
 
-    pub found_root : (locator : List A) (n : ℕ) (places : List ℕ) → Found locator n places → Found locator (suc n) (n ∷ places)
-    found_root locator n places found [] long _ = absurd (omega arith)
-    found_root locator n places found (x ∷ error) long (here_too _ rest) =
+    pub found_root : (value : ℕ → A) (n : ℕ) (places : List ℕ) → Found value n places → Found value (suc n) (n ∷ places)
+    found_root value n places found [] long _ = absurd (omega arith)
+    found_root value n places found (x ∷ error) long (here_too _ rest) =
         let same : length error ≡ n = omega arith in
         let (values, is) = found error same rest in (
           times x (power (length error)) ∷ values,
           subst (λ (m : ℕ). IsErrorAt nought times power (m ∷ places) (times x (power (length error)) ∷ values) (x ∷ error)) same (wrong x is),
         )
 
-    pub found_other : (locator : List A) (n : ℕ) (places : List ℕ) → locator_value nought plus times power locator n ≢ nought → Found locator n places → Found locator (suc n) places
-    found_other locator n places other found [] long _ = absurd (omega arith)
-    found_other locator n places other found (x ∷ error) long (here_too here rest) =
+    pub found_other : (value : ℕ → A) (n : ℕ) (places : List ℕ) → value n ≢ nought → Found value n places → Found value (suc n) places
+    found_other value n places other found [] long _ = absurd (omega arith)
+    found_other value n places other found (x ∷ error) long (here_too here rest) =
         let same : length error ≡ n = omega arith in
         let (values, is) = found error same rest in
         let nothing : x ≡ nought = elim (cases_Bool (equal x nought)) [
           | inl same_as ↦ (decides x nought).0 same_as
-          | inr apart ↦ absurd (other (ap (locator_value nought plus times power locator) (sym same) ∙ here (λ e. let contrary : true ≡ false = sym ((decides x nought).1 e) ∙ apart in (cc))))
+          | inr apart ↦ absurd (other (ap value (sym same) ∙ here (λ e. let contrary : true ≡ false = sym ((decides x nought).1 e) ∙ apart in (cc))))
         ] in
         (values, subst (λ y. IsErrorAt nought times power places values (y ∷ error)) (sym nothing) (right is))
 
-    pub searched_none : (locator : List A) (places : List ℕ) → places ≡ [] → AreSearched nought plus times power locator 0 places
-    searched_none locator places is = rw is (record {
+    pub searched_none : (value : ℕ → A) (places : List ℕ) → places ≡ [] → AreSearched nought times power value 0 places
+    searched_none value places is = rw is (record {
       falling = no_places;
-      roots = All-none (λ m. locator_value nought plus times power locator m ≡ nought);
-      errors = record { finds = found_none locator };
+      roots = All-none (λ m. value m ≡ nought);
+      errors = record { finds = found_none value };
     })
 
-    pub searched_more : (locator : List A) (m : ℕ) (places more : List ℕ) (value : A) → value ≡ locator_value nought plus times power locator m →
-        (value ≡ nought → more ≡ m ∷ places) → (value ≢ nought → more ≡ places) →
-        AreSearched nought plus times power locator m places → AreSearched nought plus times power locator (m + 1) more
-    searched_more locator m places more value is root other before =
-        elim (cases_Bool (equal value nought)) [
+    pub searched_more : (value : ℕ → A) (m : ℕ) (places more : List ℕ) (here : A) → here ≡ value m →
+        (here ≡ nought → more ≡ m ∷ places) → (here ≢ nought → more ≡ places) →
+        AreSearched nought times power value m places → AreSearched nought times power value (m + 1) more
+    searched_more value m places more here is root other before =
+        elim (cases_Bool (equal here nought)) [
           | inl same ↦
-              let at : value ≡ nought = (decides value nought).0 same in
+              let at : here ≡ nought = (decides here nought).0 same in
               let below : m < suc m = omega arith in
               rw (root at, add-one m) (record {
                 falling = place_below below before.falling;
-                roots = All-more (λ i. locator_value nought plus times power locator i ≡ nought) m places (sym is ∙ at) before.roots;
-                errors = record { finds = found_root locator m places before.errors.finds };
+                roots = All-more (λ i. value i ≡ nought) m places (sym is ∙ at) before.roots;
+                errors = record { finds = found_root value m places before.errors.finds };
               })
           | inr apart ↦
-              let some : value ≢ nought = λ e. let contrary : true ≡ false = sym ((decides value nought).1 e) ∙ apart in (cc) in
+              let some : here ≢ nought = λ e. let contrary : true ≡ false = sym ((decides here nought).1 e) ∙ apart in (cc) in
               rw (other some, add-one m) (record {
                 falling = falling_more m (suc m) places (omega arith) before.falling;
                 roots = before.roots;
-                errors = record { finds = found_other locator m places (λ e. some (is ∙ e)) before.errors.finds };
+                errors = record { finds = found_other value m places (λ e. some (is ∙ e)) before.errors.finds };
               })
         ]
 

@@ -1,6 +1,6 @@
 -- what a damaged word may be corrected to
 use Rattle.std.specs.Prelude.{◌≡◌, ℕ, ◌+◌, ◌*◌, Bool, List}
-use Rattle.galois.specs.CheckWord.{distance, IsNear}
+use Rattle.galois.specs.CheckWord.{distance, known_distance, IsNear, IsNearKnown}
 
 -- What correction does: the word becomes the one near check word, and the answer is how far that was.
 pub record IsCorrected {A : Type 0} (nought : A) (plus times : A → A → A) (power : ℕ → A) (equal : A → A → Bool) (count : ℕ) (before after : List A) (errors : ℕ) : Type 0 where
@@ -12,6 +12,17 @@ pub record IsCorrected {A : Type 0} (nought : A) (plus times : A → A → A) (p
 pub record IsBeyond {A : Type 0} (nought : A) (plus times : A → A → A) (power : ℕ → A) (equal : A → A → Bool) (count : ℕ) (before after : List A) : Type 0 where
   pub stays : after ≡ before
   pub none : (other : List A) → IsNear nought plus times power equal count before other → ⊥
+
+-- The same of a word of which some places are lost; the answer is at how many known places it was wrong.
+pub record IsRestored {A : Type 0} (nought : A) (plus times : A → A → A) (power : ℕ → A) (equal : A → A → Bool) (count : ℕ) (lost : List Bool) (before after : List A) (errors : ℕ) : Type 0 where
+  pub near : IsNearKnown nought plus times power equal count lost before after
+  pub distance_is : errors ≡ known_distance equal lost before after
+  pub only : (other : List A) → IsNearKnown nought plus times power equal count lost before other → other ≡ after
+
+-- What it leaves where it restores nothing: no check word is near, and the word stays.
+pub record IsLost {A : Type 0} (nought : A) (plus times : A → A → A) (power : ℕ → A) (equal : A → A → Bool) (count : ℕ) (lost : List Bool) (before after : List A) : Type 0 where
+  pub stays : after ≡ before
+  pub none : (other : List A) → IsNearKnown nought plus times power equal count lost before other → ⊥
 
 -- What a room is made for: the length of the longest word, and the most check elements.
 pub record RoomSize : Type 0 where

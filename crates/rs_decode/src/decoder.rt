@@ -1,36 +1,38 @@
 //! Correction to the nearest check word.
 
-ghost use Rattle.std.specs.Prelude.{◌≡◌, ◌≤◌, ◌+◌, ◌*◌, ◌/◌, ℕ, List, length, if◌then◌else◌, IfOk, OnOk, OnErr};
-ghost use Rattle.galois.specs.CheckWord.{distance, word_sum, IsNear};
-ghost use Rattle.rs_decode.specs.Nearness.{IsCorrected, IsBeyond};
+ghost use Rattle.std.specs.Prelude.{◌≡◌, ◌≤◌, ◌+◌, ◌*◌, ◌/◌, ◌||◌, ℕ, List, length, if◌then◌else◌, IfOk, OnOk, OnErr};
+ghost use Rattle.galois.specs.CheckWord.{known_distance, lost_count, word_sum, IsNearKnown};
+ghost use Rattle.rs_decode.specs.Nearness.{IsRestored, IsLost};
 ghost use Rattle.rs_decode.specs.Syndromes.{AreSyndromes};
 ghost use Rattle.galois.specs.Locator.{IsFalling};
 ghost use Rattle.rs_decode.specs.Values.{IsErrorAt, power_sums};
 
 use crate::TooDamaged;
+use crate::check_words::is_check_word;
 use crate::error_places::{Remainders, find_errors};
 use crate::errors::{mend, solve};
-use crate::syndromes::{are_zero, find_syndromes};
+use crate::lost::{count_lost, is_lost, lower_lost};
+use crate::syndromes::find_syndromes;
 use galois::{Field, Tables};
 
-// The number of places at which the words differ.
-fn count_errors<F: Field>(word: &[F], other: &[F]) -> usize
+// The number of known places at which the words differ.
+fn count_errors<F: Field>(word: &[F], other: &[F], lost: &[bool]) -> usize
     requires { length other.now ≡ length word.now }
-    ensures { result ≡ distance F.eq word.now other.now }
+    ensures { result ≡ known_distance F.eq lost.now word.now other.now }
 {
     let mut count = 0;
     for i in 0..word.len() {
-        count += differs(word[i], other[i]);
+        count += differs(word[i], other[i], is_lost(lost, i));
     }
     count
 }
 
-// 1 where the elements differ, else 0.
-fn differs<F: Field>(a: F, b: F) -> usize
-    ensures value { result ≡ (if F.eq a b then 0 else 1) }
+// 1 where the elements differ and are known, else 0.
+fn differs<F: Field>(a: F, b: F, gone: bool) -> usize
+    ensures value { result ≡ (if gone || F.eq a b then 0 else 1) }
     ensures most { result ≤ 1 }
 {
-    if a == b { 0 } else { 1 }
+    if gone || a == b { 0 } else { 1 }
 }
 
 // Takes the error at the places, whose values are in the syndromes, off the word.
@@ -55,22 +57,29 @@ fn correct_places<F: Field>(
 fn find_nearest<F: Field>(
     tables: &Tables<F>,
     syndromes: &mut [F],
+    left: &mut [F],
     remainders: &mut Remainders<F>,
     places: &mut [u32],
     fixed: &mut [F],
+    lost: &[bool],
     word: &[F],
 )
     requires syndromes { AreSyndromes F.nought F.plus F.times F.power word.now syndromes.old }
     requires fits { length word.now ≤ F.ORDER }
     requires few { length syndromes.old ≤ length word.now }
+    requires left { length left.old ≡ length syndromes.old }
+    requires lost { lost_count lost.now ≤ length syndromes.old }
+    requires alike { length lost.now ≤ length word.now }
     requires room { length syndromes.old / 2 ≤ remainders.old }
     requires places { length places.old ≡ length word.now }
     requires fixed { length fixed.old ≡ length word.now }
     ensures only { (other : List F) →
-        IsNear F.nought F.plus F.times F.power F.eq (length syndromes.old) word.now other → other ≡ fixed.new }
+        IsNearKnown F.nought F.plus F.times F.power F.eq (length syndromes.old) lost.now word.now other → other ≡ fixed.new }
     ensures room { remainders.new ≡ remainders.old }
 {
-    let count = find_errors(tables, syndromes, remainders, places);
+    left.copy_from_slice(syndromes);
+    let taken = lower_lost(tables, left, lost, word.len());
+    let count = find_errors(tables, &left[taken..], remainders, lost, places);
     fixed.copy_from_slice(word);
     correct_places(
         tables,
@@ -82,26 +91,28 @@ fn find_nearest<F: Field>(
 
 // Puts `fixed` into the place of the word if it is a check word near it.
 fn confirm<F: Field>(
-    tables: &Tables<F>,
     syndromes: &mut [F],
     fixed: &[F],
+    lost: &[bool],
     word: &mut [F],
 ) -> Result<usize, TooDamaged>
-    requires few { length syndromes.old ≤ F.ORDER }
+    requires fits { length word.old ≤ F.ORDER }
+    requires few { length syndromes.old ≤ length word.old }
     requires alike { length fixed.now ≡ length word.old }
-    ensures near { OnOk result (IsNear F.nought F.plus F.times F.power F.eq (length syndromes.old) word.old fixed.now) }
+    requires lost { lost_count lost.now ≤ length syndromes.old }
+    ensures near { OnOk result
+        (IsNearKnown F.nought F.plus F.times F.power F.eq (length syndromes.old) lost.now word.old fixed.now) }
     ensures fixed { OnOk result (word.new ≡ fixed.now) }
-    ensures distance { IfOk result (λ e. e ≡ distance F.eq word.old fixed.now) }
+    ensures distance { IfOk result (λ e. e ≡ known_distance F.eq lost.now word.old fixed.now) }
     ensures far { OnErr result
-        (IsNear F.nought F.plus F.times F.power F.eq (length syndromes.old) word.old fixed.now → ⊥) }
+        (IsNearKnown F.nought F.plus F.times F.power F.eq (length syndromes.old) lost.now word.old fixed.now → ⊥) }
     ensures stays { OnErr result (word.new ≡ word.old) }
 {
-    find_syndromes(tables, fixed, syndromes);
-    if !are_zero(syndromes) {
+    if !is_check_word(fixed, syndromes) {
         return Err(TooDamaged);
     }
-    let errors = count_errors(word, fixed);
-    if errors > syndromes.len() / 2 {
+    let errors = count_errors(word, fixed, lost);
+    if errors > (syndromes.len() - count_lost(lost)) / 2 {
         return Err(TooDamaged);
     }
     word.copy_from_slice(fixed);
@@ -112,26 +123,35 @@ fn confirm<F: Field>(
 pub fn correct<F: Field>(
     tables: &Tables<F>,
     syndromes: &mut [F],
+    left: &mut [F],
     remainders: &mut Remainders<F>,
     places: &mut [u32],
     fixed: &mut [F],
+    lost: &[bool],
     word: &mut [F],
 ) -> Result<usize, TooDamaged>
     requires fits { length word.old ≤ F.ORDER }
     requires few { length syndromes.old ≤ length word.old }
+    requires left { length left.old ≡ length syndromes.old }
+    requires alike { length lost.now ≤ length word.old }
     requires room { length syndromes.old / 2 ≤ remainders.old }
     requires places { length places.old ≡ length word.old }
     requires fixed { length fixed.old ≡ length word.old }
-    ensures corrected { IfOk result (λ e.
-        IsCorrected F.nought F.plus F.times F.power F.eq (length syndromes.old) word.old word.new e) }
+    ensures restored { IfOk result (λ e.
+        IsRestored F.nought F.plus F.times F.power F.eq (length syndromes.old) lost.now word.old word.new e) }
     ensures beyond { OnErr result
-        (IsBeyond F.nought F.plus F.times F.power F.eq (length syndromes.old) word.old word.new) }
+        (IsLost F.nought F.plus F.times F.power F.eq (length syndromes.old) lost.now word.old word.new) }
     ensures room { remainders.new ≡ remainders.old }
 {
-    find_syndromes(tables, word, syndromes);
-    if are_zero(syndromes) {
+    if count_lost(lost) > syndromes.len() {
+        return Err(TooDamaged);
+    }
+    if is_check_word(word, syndromes) {
         return Ok(0);
     }
-    find_nearest(tables, syndromes, remainders, places, fixed, word);
-    confirm(tables, syndromes, fixed, word)
+    find_syndromes(tables, word, syndromes);
+    find_nearest(
+        tables, syndromes, left, remainders, places, fixed, lost, word,
+    );
+    confirm(syndromes, fixed, lost, word)
 }

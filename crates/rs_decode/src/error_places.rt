@@ -1,6 +1,7 @@
-//! The places of the errors: those at which the error locator vanishes.
+//! The places of the errors: the lost ones, and those at which the error locator vanishes.
 
 ghost use Rattle.std.specs.Prelude.{◌≡◌, ◌≤◌, ◌<◌, ◌+◌, ◌-◌, ◌*◌, ◌/◌, ℕ, length, drop, IfOk};
+ghost use Rattle.galois.specs.CheckWord.{lost_count};
 ghost use Rattle.rs_decode.specs.Nearness.{HasRoom};
 ghost use Rattle.rs_decode.specs.Search.{AreErrorPlaces};
 
@@ -54,6 +55,7 @@ fn find_errors_in<F: Field>(
     high_factor: &mut [F],
     low: &mut [F],
     low_factor: &mut [F],
+    lost: &[bool],
     places: &mut [u32],
 ) -> usize
     requires few { length syndromes.now ≤ length places.old }
@@ -62,8 +64,8 @@ fn find_errors_in<F: Field>(
     requires high_factor { length syndromes.now / 2 + 2 ≤ length high_factor.old }
     requires low { 2 * (length syndromes.now / 2) + 1 ≤ length low.old }
     requires low_factor { length syndromes.now / 2 + 2 ≤ length low_factor.old }
-    ensures few { result ≤ length syndromes.now / 2 }
-    ensures places { AreErrorPlaces F.nought F.plus F.times F.power syndromes.now (length places.old)
+    ensures few { result ≤ lost_count lost.now + length syndromes.now / 2 }
+    ensures places { AreErrorPlaces F.nought F.plus F.times F.power syndromes.now lost.now (length places.old)
         (drop (length places.old - result) places.new) }
 {
     let half = syndromes.len() / 2;
@@ -76,22 +78,23 @@ fn find_errors_in<F: Field>(
         &mut low_factor[..half + 2],
         half,
     );
-    find_places(tables, &mut low_factor[..width], places)
+    find_places(tables, &mut low_factor[..width], lost, places)
 }
 
-/// Leaves at the end of `places` those at which a word with these syndromes may be wrong, and answers how many there
-/// are.
+/// Leaves at the end of `places` the lost ones and those at which a word may be wrong, and answers how many there are. The
+/// syndromes are those that are left once the lost places are taken out of them.
 pub fn find_errors<F: Field>(
     tables: &Tables<F>,
     syndromes: &[F],
     remainders: &mut Remainders<F>,
+    lost: &[bool],
     places: &mut [u32],
 ) -> usize
     requires few { length syndromes.now ≤ length places.old }
     requires fits { length places.old ≤ F.ORDER }
     requires room { length syndromes.now / 2 ≤ remainders.old }
-    ensures few { result ≤ length syndromes.now / 2 }
-    ensures places { AreErrorPlaces F.nought F.plus F.times F.power syndromes.now (length places.old)
+    ensures few { result ≤ lost_count lost.now + length syndromes.now / 2 }
+    ensures places { AreErrorPlaces F.nought F.plus F.times F.power syndromes.now lost.now (length places.old)
         (drop (length places.old - result) places.new) }
     ensures room { remainders.new ≡ remainders.old }
 {
@@ -102,6 +105,7 @@ pub fn find_errors<F: Field>(
         &mut remainders.high_factor,
         &mut remainders.low,
         &mut remainders.low_factor,
+        lost,
         places,
     )
 }

@@ -9,8 +9,8 @@ use crate::lists::sum;
 use crate::powers::{power_at, quotient, times_power_at};
 use galois::{Field, Tables};
 
-// Takes one place out of the power sums: each becomes itself less the one before it times the place.
-fn lower<F: Field>(tables: &Tables<F>, sums: &mut [F], first: F, place: u32)
+/// Takes one place out of the power sums: each becomes itself less the one before it times the place.
+pub fn lower<F: Field>(tables: &Tables<F>, sums: &mut [F], first: F, place: u32)
     ensures { sums.new ≡ lowered F.plus F.times (F.power place) first sums.old }
 {
     let mut before = first;

@@ -1,10 +1,12 @@
 //! Correction of the words of Reed-Solomon codes over any field.
 #![tactic(auto)]
 
+mod check_words;
 mod decoder;
 mod error_places;
 mod errors;
 mod lists;
+mod lost;
 mod powers;
 mod remainders;
 mod room;
@@ -14,5 +16,6 @@ mod syndromes;
 mod tests;
 mod too_damaged;
 
-pub use room::{Room, decode};
+pub use lost::count_lost;
+pub use room::{Room, decode, decode_with_lost};
 pub use too_damaged::TooDamaged;

@@ -1,7 +1,7 @@
 //! The memory of the decoder, and the call.
 
 ghost use Rattle.std.specs.Prelude.{◌≡◌, ◌≤◌, ◌/◌, length, IfOk, OnErr};
-ghost use Rattle.rs_decode.specs.Nearness.{IsCorrected, IsBeyond, RoomSize};
+ghost use Rattle.rs_decode.specs.Nearness.{IsCorrected, IsBeyond, IsRestored, IsLost, RoomSize};
 
 use crate::TooDamaged;
 use crate::decoder::correct;
@@ -16,6 +16,7 @@ use std::marker::Model;
 #[derive(Drop)]
 pub struct Room<F: Field> {
     syndromes: Vec<F>,
+    left: Vec<F>,
     remainders: Remainders<F>,
     places: Vec<u32>,
     fixed: Vec<F>,
@@ -26,7 +27,7 @@ impl<F: Field> Model for Room<F> {
 
     ghost view = { λ r. record { longest = length r.fixed.items; most = length r.syndromes.items } };
 
-    ghost invariant = { λ r. (r.remainders ≡ length r.syndromes.items / 2) ×
+    ghost invariant = { λ r. (length r.left.items ≡ length r.syndromes.items) × (r.remainders ≡ length r.syndromes.items / 2) ×
         (length r.places.items ≡ length r.fixed.items) };
 }
 
@@ -40,6 +41,7 @@ impl<F: Field> Room<F> {
     {
         Ok(Room {
             syndromes: zeros(alloc, c)?,
+            left: zeros(alloc, c)?,
             remainders: Remainders::new(alloc, c / 2)?,
             places: vec![in alloc; 0; n]?,
             fixed: zeros(alloc, n)?,
@@ -51,29 +53,36 @@ impl<F: Field> Room<F> {
 fn correct_within<F: Field>(
     tables: &Tables<F>,
     syndromes: &mut [F],
+    left: &mut [F],
     remainders: &mut Remainders<F>,
     places: &mut [u32],
     fixed: &mut [F],
+    lost: &[bool],
     word: &mut [F],
     c: usize,
 ) -> Result<usize, TooDamaged>
     requires few { c ≤ length word.old }
     requires fits { length word.old ≤ F.ORDER }
+    requires alike { length lost.now ≤ length word.old }
     requires most { c ≤ length syndromes.old }
+    requires left { length left.old ≡ length syndromes.old }
     requires remainders { remainders.old ≡ length syndromes.old / 2 }
     requires places { length word.old ≤ length places.old }
     requires fixed { length word.old ≤ length fixed.old }
-    ensures corrected { IfOk result (λ e. IsCorrected F.nought F.plus F.times F.power F.eq c word.old word.new e) }
-    ensures beyond { OnErr result (IsBeyond F.nought F.plus F.times F.power F.eq c word.old word.new) }
+    ensures restored { IfOk result (λ e.
+        IsRestored F.nought F.plus F.times F.power F.eq c lost.now word.old word.new e) }
+    ensures beyond { OnErr result (IsLost F.nought F.plus F.times F.power F.eq c lost.now word.old word.new) }
     ensures room { remainders.new ≡ remainders.old }
 {
     let n = word.len();
     correct(
         tables,
         &mut syndromes[..c],
+        &mut left[..c],
         remainders,
         &mut places[..n],
         &mut fixed[..n],
+        lost,
         word,
     )
 }
@@ -93,15 +102,39 @@ pub fn decode<F: Field>(room: &mut Room<F>, word: &mut [F], c: usize) -> Result<
     ensures beyond { OnErr result (IsBeyond F.nought F.plus F.times F.power F.eq c word.old word.new) }
     ensures room { room.new ≡ room.old }
 {
+    decode_with_lost(room, word, &[], c)
+}
+
+/// The same for a word of which some places are known to be lost: `lost` tells which, and behind its end none is. Twice the
+/// number of known places at which the check word differs and the number of lost places are together at most `c`, and the
+/// answer is that number of known places. (ISO/IEC 24778, Reed-Solomon error correction: erasures.)
+pub fn decode_with_lost<F: Field>(
+    room: &mut Room<F>,
+    word: &mut [F],
+    lost: &[bool],
+    c: usize,
+) -> Result<usize, TooDamaged>
+    requires few { c ≤ length word.old }
+    requires fits { length word.old ≤ F.ORDER }
+    requires alike { length lost.now ≤ length word.old }
+    requires longest { length word.old ≤ room.old.longest }
+    requires most { c ≤ room.old.most }
+    ensures restored { IfOk result (λ e.
+        IsRestored F.nought F.plus F.times F.power F.eq c lost.now word.old word.new e) }
+    ensures beyond { OnErr result (IsLost F.nought F.plus F.times F.power F.eq c lost.now word.old word.new) }
+    ensures room { room.new ≡ room.old }
+{
     let mut powers = [0; 8190];
     let mut numbers = [0; 4096];
     let tables = Tables::new(&mut powers, &mut numbers);
     correct_within(
         &tables,
         &mut room.syndromes,
+        &mut room.left,
         &mut room.remainders,
         &mut room.places,
         &mut room.fixed,
+        lost,
         word,
         c,
     )

@@ -1,6 +1,6 @@
 //! The syndromes of a word.
 
-ghost use Rattle.std.specs.Prelude.{◌≡◌, ◌≤◌, ◌<◌, ◌↔◌, ℕ, true, length, slice_index_or};
+ghost use Rattle.std.specs.Prelude.{◌≤◌, length};
 ghost use Rattle.rs_decode.specs.Syndromes.{AreSyndromes, AreFed};
 
 use crate::lists::clear;
@@ -25,17 +25,4 @@ pub fn find_syndromes<F: Field>(tables: &Tables<F>, word: &[F], syndromes: &mut 
     for element in word {
         feed(tables, syndromes, *element);
     }
-}
-
-/// Whether all elements are zero.
-pub fn are_zero<F: Field>(list: &[F]) -> bool
-    ensures { (result ≡ true) ↔ ((k : ℕ) → k < length list.now → slice_index_or list.now k F.nought ≡ F.nought) }
-{
-    let zero = F::zero();
-    for element in list {
-        if *element != zero {
-            return false;
-        }
-    }
-    true
 }

@@ -15,6 +15,7 @@ use Rattle.aztec_layout.specs.Sizes.{IsSize, codewords_of}
 use Rattle.aztec_layout.proofs.SizeLemmas.{same_size, side_some}
 use Rattle.aztec_layout.proofs.SizeParts.{size_at}
 use Rattle.symbol_reader.specs.Reading.{IsFound}
+use Rattle.symbol_reader.specs.Sight.{Sight}
 
 -- The finder of a compact symbol and that of a full one do not stand in one picture.
 no_both : (picture : Picture) → 7 ≤ middle_of picture → picture.width ≤ row_count picture → HasFinder true picture → HasFinder false picture → ⊥
@@ -40,13 +41,13 @@ no_both picture room tall full compact =
     compact_dark m room = grind (arith, nat_tests)
 
 -- A picture has one size.
-pub found_once : (picture : Picture) (s t : Size) → IsFound picture s → IsFound picture t → s ≡ t
-found_once picture s t p q = by_kinds s.full t.full refl refl
+pub found_once : (sight : Sight) (s t : Size) → IsFound sight s → IsFound sight t → s ≡ t
+found_once sight s t p q = by_kinds s.full t.full refl refl
   where
-    room : 7 ≤ middle_of picture
+    room : 7 ≤ middle_of sight.picture
     room = omega (arith, p.side.width, side_some s p.side.sized)
 
-    tall : picture.width ≤ row_count picture
+    tall : sight.picture.width ≤ row_count sight.picture
     tall = omega (arith, p.side.width, p.side.rows)
 
     alike : s.full ≡ t.full → s ≡ t
@@ -56,9 +57,9 @@ found_once picture s t p q = by_kinds s.full t.full refl refl
     by_kinds true true is is' = alike (is ∙ sym is')
     by_kinds false false is is' = alike (is ∙ sym is')
     by_kinds true false is is' =
-        absurd (no_both picture room tall (subst (λ (f : Bool). HasFinder f picture) is p.stands) (subst (λ (f : Bool). HasFinder f picture) is' q.stands))
+        absurd (no_both sight.picture room tall (subst (λ (f : Bool). HasFinder f sight.picture) is p.finder.stands) (subst (λ (f : Bool). HasFinder f sight.picture) is' q.finder.stands))
     by_kinds false true is is' =
-        absurd (no_both picture room tall (subst (λ (f : Bool). HasFinder f picture) is' q.stands) (subst (λ (f : Bool). HasFinder f picture) is p.stands))
+        absurd (no_both sight.picture room tall (subst (λ (f : Bool). HasFinder f sight.picture) is' q.finder.stands) (subst (λ (f : Bool). HasFinder f sight.picture) is p.finder.stands))
 
 -- Numbers from 1 on are told by the bits of one less.
 counted_bits : (width m n : ℕ) → 1 ≤ m → 1 ≤ n → m ≤ 2 ^ width → n ≤ 2 ^ width → to_bits width (m - 1) ≡ to_bits width (n - 1) → m ≡ n

@@ -5,7 +5,7 @@ use Rattle.std.specs.List.{flat_map}
 use Rattle.std.proofs.lemmas.List.{append-nil, length-append}
 use Rattle.std.proofs.Math.Nat.{one-mul, suc-mul, zero-mul}
 use Rattle.bar_base.specs.GridText.{module_text}
-use Rattle.symbol_reader.specs.GridLines.{AreLines, HasTextSides, IsLineEnd, IsPictureOf, feed, return_feed, no_line, last_line, line}
+use Rattle.symbol_reader.specs.GridLines.{AreLines, HasTextSides, IsLineEnd, IsPictureWithin, feed, return_feed, no_line, last_line, line}
 use Rattle.symbol_reader.specs.Scanning.{modules_in}
 
 modules_in-row : (row : List Bool) (rest : List ℕ) → modules_in (map module_text row ++ rest) ≡ row ++ modules_in rest
@@ -34,9 +34,9 @@ pub text_modules : (bytes : List ℕ) (width count : ℕ) → HasTextSides bytes
 text_modules bytes width count h = ap length (lines_modules h.text.lines) ∙ lines_count h.text.lines ∙ ap (λ (n : ℕ). n * width) h.counted
 
 -- The picture of a text with these sides.
-pub picture_of : (bytes : List ℕ) (width count : ℕ) → HasTextSides bytes width count → width ≤ 151 → count ≤ 151
-    → IsPictureOf bytes (record { width = width; heights = replicate count 1; modules = modules_in bytes })
-picture_of bytes width count h narrow short = record {
+pub picture_of : (most_wide most_rows : ℕ) (bytes : List ℕ) (width count : ℕ) → HasTextSides bytes width count → width ≤ most_wide → count ≤ most_rows
+    → IsPictureWithin most_wide most_rows bytes (record { width = width; heights = replicate count 1; modules = modules_in bytes })
+picture_of most_wide most_rows bytes width count h narrow short = record {
   rows = h.rows;
   text = h.text;
   heights = ap (λ (n : ℕ). replicate n 1) (sym h.counted);

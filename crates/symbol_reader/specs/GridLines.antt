@@ -43,25 +43,37 @@ pub record IsBadText (bytes : List ℕ) (place : ℕ) : Type 0 where
   pub stuck : place < length bytes → (more : List ℕ) → IsGridText (take (place + 1) bytes ++ more) → ⊥
   pub short : place ≡ length bytes → IsGridText bytes → ⊥
 
--- The picture of a text: its rows, each with the height 1, at most 151 of at most 151 modules.
-pub record IsPictureOf (bytes : List ℕ) (picture : Picture) : Type 0 where
+-- The picture of a text: its rows, each with the height 1, at most so many of at most so many modules.
+pub record IsPictureWithin (most_wide most_rows : ℕ) (bytes : List ℕ) (picture : Picture) : Type 0 where
   pub rows : List (List Bool)
   pub text : IsTextOf picture.width rows bytes
   pub heights : picture.heights ≡ replicate (length rows) 1
   pub modules : picture.modules ≡ flat_map (λ row. row) rows
-  pub narrow : picture.width ≤ 151
-  pub short : length rows ≤ 151
+  pub narrow : picture.width ≤ most_wide
+  pub short : length rows ≤ most_rows
+
+-- The picture of a text with at most 151 rows of at most 151 modules.
+abbrev pub IsPictureOf : (bytes : List ℕ) → Picture → Type 0
+IsPictureOf bytes picture = IsPictureWithin 151 151 bytes picture
+
+-- The text of a grid that is wider, or has more rows.
+pub record IsTooLargeFor (most_wide most_rows : ℕ) (bytes : List ℕ) (width count : ℕ) : Type 0 where
+  pub sides : HasTextSides bytes width count
+  pub large : (most_wide < width) ⊎ (most_rows < count)
 
 -- The text of a grid that is wider than any symbol, or has more rows.
-pub record IsTooLarge (bytes : List ℕ) (width count : ℕ) : Type 0 where
-  pub sides : HasTextSides bytes width count
-  pub large : (151 < width) ⊎ (151 < count)
+abbrev pub IsTooLarge : (bytes : List ℕ) (width count : ℕ) → Type 0
+IsTooLarge bytes width count = IsTooLargeFor 151 151 bytes width count
 
--- What a refusal to read bytes as a picture says. That memory is wanting says no more.
+-- What a refusal to read bytes as a picture within these sides says. That memory is wanting says no more.
+abbrev pub IsTextFaultFor : (most_wide most_rows : ℕ) (bytes : List ℕ) → TextFault → Type 0
+IsTextFaultFor most_wide most_rows bytes NoMemory = Unit {0}
+IsTextFaultFor most_wide most_rows bytes (BadText place) = IsBadText bytes place
+IsTextFaultFor most_wide most_rows bytes (BadSide width count) = IsTooLargeFor most_wide most_rows bytes width count
+
+-- The same of a picture of at most 151 by 151 modules.
 abbrev pub IsTextFault : (bytes : List ℕ) → TextFault → Type 0
-IsTextFault bytes NoMemory = Unit {0}
-IsTextFault bytes (BadText place) = IsBadText bytes place
-IsTextFault bytes (BadSide width count) = IsTooLarge bytes width count
+IsTextFault bytes fault = IsTextFaultFor 151 151 bytes fault
 
 -- The answer is this picture, unless memory is wanting.
 abbrev pub GivesPicture : Picture → Result Picture TextFault → Type 0

@@ -1,10 +1,11 @@
 ghost use Rattle.std.specs.Prelude.{◌≡◌, ℕ, IfOk, IfErr, IfSome, IfNone, true, false};
 ghost use Rattle.bar_base.specs.Picture.{row_count};
-ghost use Rattle.aztec_layout.specs.CoreReading.{HasFinder, IsFirstDiffering};
 ghost use Rattle.aztec_layout.specs.DataReading.{HasSide};
-ghost use Rattle.symbol_reader.specs.Reading.{IsGridFault, IsFound};
+ghost use Rattle.symbol_reader.specs.Reading.{IsFaultIn, IsFound};
+ghost use Rattle.symbol_reader.specs.Sight.{IsFirstWrong, StandsIn, earlier_of, is_earlier, seen_sight};
 
 use crate::grid_fault::GridFault;
+use crate::seen::Seen;
 use aztec_layout::{Size, finder, side};
 use bar_base::Grid;
 
@@ -24,45 +25,74 @@ fn size_of(grid: &Grid, full: bool) -> Option<Size>
     None
 }
 
-/// The first module of finder and orientation marks that differs, or None where they stand.
-fn differing(grid: &Grid, size: Size) -> Option<(u32, u32)>
-    requires { HasSide grid.now size }
-    ensures stands { IfNone result (HasFinder size.full grid.now) }
-    ensures differs { IfSome result (λ place. IsFirstDiffering size.full grid.now place.0 place.1) }
+/// Whether a place comes before another one, row by row from the top, each row from the left.
+fn is_earlier(place: (u32, u32), other: (u32, u32)) -> bool
+    ensures { result ≡ is_earlier place.0 place.1 other.0 other.1 }
 {
-    finder(grid, size.full)
+    place.1 < other.1 || (place.1 == other.1 && place.0 < other.0)
+}
+
+/// The earlier of two places, where there are any.
+#[tactic(auto, unfolding(crate::specs::Sight::earlier_of))]
+fn earlier(one: Option<(u32, u32)>, other: Option<(u32, u32)>) -> Option<(u32, u32)>
+    ensures { result ≡ earlier_of one other }
+{
+    match (one, other) {
+        (Some(place), Some(another)) => {
+            if is_earlier(another, place) {
+                Some(another)
+            } else {
+                Some(place)
+            }
+        }
+        (Some(place), None) => Some(place),
+        (None, another) => another,
+    }
+}
+
+/// The first module of finder and orientation marks that differs or is unknown, or None where they stand.
+fn wrong_module(seen: &Seen<'_>, size: Size) -> Option<(u32, u32)>
+    requires { HasSide seen.now.grid.now size }
+    ensures stands { IfNone result (StandsIn size.full (seen_sight seen.now)) }
+    ensures wrong { IfSome result (λ place. IsFirstWrong size.full (seen_sight seen.now) place.0 place.1) }
+{
+    let differing = finder(seen.grid, size.full);
+    if seen.whole {
+        return differing;
+    }
+    earlier(differing, finder(seen.dark, size.full))
 }
 
 /// The size of the symbol in a picture with the side of a compact size.
-fn found_beside(grid: &Grid, compact: Size) -> Result<Size, GridFault>
-    requires side { HasSide grid.now compact }
+fn found_beside(seen: &Seen<'_>, compact: Size) -> Result<Size, GridFault>
+    requires side { HasSide seen.now.grid.now compact }
     requires kind { compact.full ≡ false }
-    ensures found { IfOk result (IsFound grid.now) }
-    ensures refused { IfErr result (IsGridFault grid.now) }
+    ensures found { IfOk result (IsFound (seen_sight seen.now)) }
+    ensures refused { IfErr result (IsFaultIn (seen_sight seen.now)) }
 {
-    let Some(place) = differing(grid, compact) else {
+    let Some(place) = wrong_module(seen, compact) else {
         return Ok(compact);
     };
-    let Some(full) = size_of(grid, true) else {
+    let Some(full) = size_of(seen.grid, true) else {
         return Err(GridFault::NoFinder(place.0, place.1));
     };
-    match differing(grid, full) {
+    match wrong_module(seen, full) {
         None => Ok(full),
         Some(_) => Err(GridFault::NoFinder(place.0, place.1)),
     }
 }
 
 /// The size of the symbol in a square picture without the side of a compact size.
-fn found_full(grid: &Grid) -> Result<Size, GridFault>
-    requires square { row_count grid.now ≡ grid.now.width }
-    requires none { (layers : ℕ) → HasSide grid.now (record { full = false; layers = layers }) → ⊥ }
-    ensures found { IfOk result (IsFound grid.now) }
-    ensures refused { IfErr result (IsGridFault grid.now) }
+fn found_full(seen: &Seen<'_>) -> Result<Size, GridFault>
+    requires square { row_count seen.now.grid.now ≡ seen.now.grid.now.width }
+    requires none { (layers : ℕ) → HasSide seen.now.grid.now (record { full = false; layers = layers }) → ⊥ }
+    ensures found { IfOk result (IsFound (seen_sight seen.now)) }
+    ensures refused { IfErr result (IsFaultIn (seen_sight seen.now)) }
 {
-    let Some(full) = size_of(grid, true) else {
-        return Err(GridFault::BadSide(grid.width(), grid.rows()));
+    let Some(full) = size_of(seen.grid, true) else {
+        return Err(GridFault::BadSide(seen.grid.width(), seen.grid.rows()));
     };
-    match differing(grid, full) {
+    match wrong_module(seen, full) {
         None => Ok(full),
         Some((x, y)) => Err(GridFault::NoFinder(x, y)),
     }
@@ -70,15 +100,15 @@ fn found_full(grid: &Grid) -> Result<Size, GridFault>
 
 /// The size of the symbol in a picture, by its side, its finder and its orientation marks (ISO/IEC 24778, reference
 /// decode algorithm).
-pub(crate) fn found_size(grid: &Grid) -> Result<Size, GridFault>
-    ensures found { IfOk result (IsFound grid.now) }
-    ensures refused { IfErr result (IsGridFault grid.now) }
+pub(crate) fn found_size(seen: &Seen<'_>) -> Result<Size, GridFault>
+    ensures found { IfOk result (IsFound (seen_sight seen.now)) }
+    ensures refused { IfErr result (IsFaultIn (seen_sight seen.now)) }
 {
-    if grid.rows() != grid.width() {
-        return Err(GridFault::BadSide(grid.width(), grid.rows()));
+    if seen.grid.rows() != seen.grid.width() {
+        return Err(GridFault::BadSide(seen.grid.width(), seen.grid.rows()));
     }
-    match size_of(grid, false) {
-        Some(compact) => found_beside(grid, compact),
-        None => found_full(grid),
+    match size_of(seen.grid, false) {
+        Some(compact) => found_beside(seen, compact),
+        None => found_full(seen),
     }
 }

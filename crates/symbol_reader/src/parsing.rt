@@ -1,7 +1,7 @@
 ghost use Rattle.std.specs.Prelude.{◌≡◌, ◌≤◌, ◌*◌, ◌++◌, IfOk, IfErr, OnOk, length, replicate};
 ghost use Rattle.bar_base.specs.Picture.{Picture};
 ghost use Rattle.symbol_reader.specs.declared.text_fault.TextFault.TheVariants.{NoMemory as Wanting};
-ghost use Rattle.symbol_reader.specs.GridLines.{IsPictureOf, IsTextFault, GivesItsPicture};
+ghost use Rattle.symbol_reader.specs.GridLines.{IsPictureOf, IsPictureWithin, IsTextFault, IsTextFaultFor, GivesItsPicture};
 ghost use Rattle.symbol_reader.specs.Scanning.{byte_modules, modules_in};
 
 use crate::scanning::sides;
@@ -10,7 +10,7 @@ use bar_base::{Grid, NoMemory};
 use std::alloc::Global;
 
 /// The most modules on a side of a symbol.
-const MOST_ON_SIDE: u32 = 151;
+pub(crate) const MOST_ON_SIDE: u32 = 151;
 
 /// Puts the module that a byte is, if it is one, at the end.
 fn push_module(modules: &mut Vec<bool>, byte: u8) -> Result<(), NoMemory>
@@ -38,9 +38,10 @@ fn modules(alloc: Global, bytes: &[u8]) -> Result<Vec<bool>, NoMemory>
 /// The picture of a text with these sides.
 fn picture(alloc: Global, bytes: &[u8], width: u32, rows: u32) -> Result<Grid, NoMemory>
     requires wide { 1 ≤ width }
-    requires narrow { width ≤ 151 }
+    requires narrow { width ≤ 16384 }
     requires tall { 1 ≤ rows }
-    requires short { rows ≤ 151 }
+    requires short { rows ≤ 16384 }
+    requires small { rows * width ≤ 1048576 }
     requires modules { length (modules_in bytes.now) ≡ rows * width }
     ensures { IfOk result (λ grid.
         grid ≡ record { width = width; heights = replicate rows 1; modules = modules_in bytes.now }) }
@@ -50,21 +51,42 @@ fn picture(alloc: Global, bytes: &[u8], width: u32, rows: u32) -> Result<Grid, N
     Grid::of_rows(alloc, width, &heights, modules)
 }
 
-/// The picture that a text shows.
-fn parsed(alloc: Global, bytes: &[u8]) -> Result<Grid, TextFault>
-    requires { length bytes.now ≤ 65536 }
-    ensures picture { IfOk result (IsPictureOf bytes.now) }
-    ensures refused { IfErr result (IsTextFault bytes.now) }
+/// The picture that a text shows, of at most so many rows of at most so many modules.
+pub(crate) fn parsed(alloc: Global, bytes: &[u8], most_wide: u32, most_rows: u32) -> Result<Grid, TextFault>
+    requires bytes { length bytes.now ≤ 65536 }
+    requires wide { most_wide ≤ 16384 }
+    requires rows { most_rows ≤ 16384 }
+    requires small { most_rows * most_wide ≤ 1048576 }
+    ensures picture { IfOk result (IsPictureWithin most_wide most_rows bytes.now) }
+    ensures modules { IfOk result (λ grid. grid.modules ≡ modules_in bytes.now) }
+    ensures refused { IfErr result (IsTextFaultFor most_wide most_rows bytes.now) }
 {
     let (width, rows) = match sides(bytes) {
         Err(place) => return Err(TextFault::BadText(place)),
         Ok(sides) => sides,
     };
-    if width > MOST_ON_SIDE || rows > MOST_ON_SIDE {
+    if width > most_wide || rows > most_rows {
         return Err(TextFault::BadSide(width, rows));
     }
     let grid = picture(alloc, bytes, width, rows)?;
     Ok(grid)
+}
+
+/// The picture that a text shows, as `parse_grid` reads it, but of at most so many rows of at most so many modules; `BadSide` comes where
+/// the text is one and is larger.
+pub fn parse_within(alloc: Global, bytes: &[u8], most_wide: u32, most_rows: u32) -> Result<Grid, TextFault>
+    requires bytes { length bytes.now ≤ 65536 }
+    requires wide { most_wide ≤ 16384 }
+    requires rows { most_rows ≤ 16384 }
+    requires small { most_rows * most_wide ≤ 1048576 }
+    ensures picture { IfOk result (IsPictureWithin most_wide most_rows bytes.now) }
+    ensures only { IfOk result (λ grid.
+        (other : Picture) → IsPictureWithin most_wide most_rows bytes.now other → other ≡ grid) }
+    ensures refused { IfErr result (IsTextFaultFor most_wide most_rows bytes.now) }
+    ensures none { IfErr result (λ fault.
+        (other : Picture) → IsPictureWithin most_wide most_rows bytes.now other → fault ≡ Wanting) }
+{
+    parsed(alloc, bytes, most_wide, most_rows)
 }
 
 /// The picture that a text of the characters `0` and `1` shows: a line for each row of modules, all of one length, each
@@ -83,5 +105,5 @@ pub fn parse_grid(alloc: Global, bytes: &[u8]) -> Result<Grid, TextFault>
     // the text that is written for a picture shows the picture
     ensures text { GivesItsPicture bytes.now result }
 {
-    parsed(alloc, bytes)
+    parse_within(alloc, bytes, MOST_ON_SIDE, MOST_ON_SIDE)
 }

@@ -1,3 +1,4 @@
+pub mod LineByLine
 pub mod PutPieceByPiece
 pub mod GridLines
 pub mod RunLines

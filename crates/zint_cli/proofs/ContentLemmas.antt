@@ -1,14 +1,14 @@
 -- What reading an input says of its content.
-use Rattle.std.proofs.Common.{◌≡◌, ◌<◌, ℕ, List, Some, None, length, refl, sym, ap, ◌∙◌, subst, inl, true, false, if◌then◌else◌, nat_eq, codes, IfSome}
+use Rattle.std.proofs.Common.{◌≡◌, ◌<◌, ℕ, List, Some, None, length, refl, sym, ap, ◌∙◌, subst, true, false, if◌then◌else◌, nat_eq, codes, IfSome}
 use Rattle.std.specs.declared.option.Option.{Option}
 use Rattle.std.specs.Option.{option_map}
 use Rattle.std.specs.List.{starts_with}
 use Rattle.bar_base.specs.Files.{FilesState, Reading, Lacks, Opens, left_of, beside_left, beside_reading, files_in, SameFiles}
 use Rattle.bar_base.specs.Limits.{most_bytes}
 use Rattle.bar_base.specs.Input.{limit_for, IsTooLong}
-use Rattle.zint_texts.specs.declared.detail.Unit.TheVariants.{Bytes}
-use Rattle.zint_texts.specs.declared.refusal.Refusal.TheVariants.{TooLong}
-use Rattle.zint_cli.specs.Content.{Content, known, missing, content_left, file_content, named_content, IsPastLimit, IsOverLimit, IsContent, IsUntaken}
+use Rattle.zint_answers.specs.declared.detail.Unit.TheVariants.{Bytes}
+use Rattle.zint_answers.specs.declared.refusal.Refusal.TheVariants.{TooLong}
+use Rattle.zint_cli.specs.Content.{known, missing, content_left, file_content, named_content, IsPastLimit, IsOverLimit, IsContent}
 
 -- where both limits are one, it counts for every input
 pub limit_same : (limit : ℕ) (input : List ℕ) → limit_for limit limit input ≡ limit

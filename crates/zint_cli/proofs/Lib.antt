@@ -1,9 +1,8 @@
 pub mod AnswerLemmas
 pub mod ContentLemmas
-pub mod FileLemmas
-pub mod Headline
-pub mod Headline128
+pub mod Drawings
 pub mod OneAnswer
-pub mod ReadingBack
-pub mod ReadingLemmas
+pub mod Promises
+pub mod Requests
+pub mod Rows
 pub mod Serving

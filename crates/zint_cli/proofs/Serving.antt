@@ -1,122 +1,169 @@
--- From the answer to what the call does.
-use Rattle.std.proofs.Common.{◌≡◌, ◌≢◌, ◌⊎◌, ℕ, List, Ok, Err, Result, refl, inl, inr}
+-- The three ways in which a call ends: with its output, without an answer to its request, and without a request.
+use Rattle.std.proofs.Common.{◌≡◌, ◌≢◌, ◌⊎◌, ℕ, List, Ok, Err, IsSome, true, false, refl, sym, ap, subst, ◌∙◌, inl, inr}
 use Rattle.std.specs.declared.option.Option.{Option}
-use Rattle.bar_base.specs.Files.{FilesState}
-use Rattle.zint_texts.specs.FaultLine.{status_of}
-use Rattle.zint_texts.specs.Refusals.{refusal_status}
-use Rattle.zint_texts.specs.Steps.{Refuses}
-use Rattle.zint_texts.specs.declared.fault.Fault.{Fault}
-use Rattle.zint_texts.specs.declared.fault.Fault.TheVariants.{NoMemory, Unread, Unwritten, Refused}
-use Rattle.zint_texts.specs.declared.refusal.Refusal.{Refusal}
-use Rattle.zint_texts.specs.declared.refusal.Refusal.TheVariants.{Usage, TooLong, BadData, BadSegment, BadCheck, BadOption, NoFit, BadImage, NoFinder, BadMode, TooDamaged, BadWord, BadSpelling}
-use Rattle.zint_words.specs.Outcome.{Outcome, settings}
-use Rattle.zint_words.specs.Settings.{Request}
-use Rattle.zint_cli.specs.Call.{CallBefore, before_of, asked, called, request_origin, responds, IsUnanswered}
-use Rattle.zint_cli.specs.Content.{content_of, ReadFaulted}
-use Rattle.zint_cli.specs.Ending.{EndsWithLine, HasStatus, MayEnd, ReadFails}
+use Rattle.std.specs.Prelude.{MatchBool, None, Some}
+use Rattle.std.specs.Io.KnownBytes.{IsAtEnd}
+use Rattle.bar_base.specs.Faults.{Rose}
+use Rattle.bar_base.specs.Files.{FilesState, SameFiles, left_of}
+use Rattle.bar_base.proofs.NamedFile.{HoldsFile-over, HoldsPart-over}
+use Rattle.zint_answers.specs.FaultLine.{status_of}
+use Rattle.bar_base.specs.Steps.{Step}
+use Rattle.zint_answers.specs.Steps.{Refuses}
+use Rattle.zint_answers.specs.declared.fault.Fault.{Fault}
+use Rattle.zint_answers.specs.declared.fault.Fault.TheVariants.{NoMemory, Unread, Unwritten, Refused}
+use Rattle.zint_answers.proofs.Statuses.{is_outside, refusal_inside}
+use Rattle.zint_words.specs.Outcome.{settings}
+use Rattle.zint_settings.specs.Settings.{MessageOrigin, OnDemonstration, Request, from_input, from_text}
+use Rattle.zint_settings.proofs.Known.{IsFit}
+use Rattle.zint_cli.specs.Call.{asked, responds}
+use Rattle.zint_cli.specs.Content.{Content, HasEnded, ReadFaulted, is_standard, names_standard}
+use Rattle.zint_cli.specs.Effects.{HoldsText, HoldsTextPart, WriteFaulted, WritesLine}
+use Rattle.zint_cli.specs.Ending.{EndsWith, HasCause, OnRequest, Wrote, content}
+use Rattle.zint_cli.specs.Headline.{ShowsNearGrid}
+use Rattle.zint_cli.specs.Outside.{Call}
+use Rattle.zint_cli.specs.Run.{Ran}
+use Rattle.zint_cli.specs.inner.Stopped.{IsStopped}
+use Rattle.zint_cli.proofs.Promises.{promised}
+use Rattle.zint_cli.proofs.Requests.{answers_misuse, answers_request, not_refused, of_request, on_demonstration, on_request}
+use Rattle.zint_answers.specs.declared.refusal.Refusal.{Refusal}
 
--- the answer for a request is that of a call whose words make it
-pub called_settings : (request : Request) (left : Option (List ℕ)) (files : Option FilesState) (answer : Result (List ℕ) Refusal)
-    → responds request (content_of (request_origin request) left files) answer → called (before_of (settings request) left files) answer
-unfolding called
-called_settings request left files (Ok text) responded = (request, refl, responded)
-called_settings request left files (Err refusal) responded = inr (request, refl, responded)
+-- what was written over files that are the same
+text_over : (output : Option (List ℕ)) (text : List ℕ) (out out' : Option (List ℕ)) (old mid new : Option FilesState)
+    → SameFiles old mid → HoldsText output text out out' mid new → HoldsText output text out out' old new
+text_over None text out out' old mid new same (appended, kept) = (appended, kept ∙ same)
+text_over (Some name) text out out' old mid new same holds = HoldsFile-over name text old mid new same holds
 
--- no refusal has the status of an input that was not read
-refusal_not_ten : (refusal : Refusal) → refusal_status refusal ≡ 10 → ⊥
-refusal_not_ten Usage ten = cc
-refusal_not_ten (TooLong limit unit) ten = cc
-refusal_not_ten (BadData kind place) ten = cc
-refusal_not_ten (BadSegment kind place segment) ten = cc
-refusal_not_ten (BadCheck given place wanted) ten = cc
-refusal_not_ten (BadOption text) ten = cc
-refusal_not_ten (NoFit misfit) ten = cc
-refusal_not_ten (BadImage fault) ten = cc
-refusal_not_ten (NoFinder x y) ten = cc
-refusal_not_ten (BadMode words) ten = cc
-refusal_not_ten (TooDamaged codewords check) ten = cc
-refusal_not_ten (BadWord place) ten = cc
-refusal_not_ten (BadSpelling place) ten = cc
+part_over : (output : Option (List ℕ)) (text : List ℕ) (out out' : Option (List ℕ)) (old mid new : Option FilesState)
+    → SameFiles old mid → HoldsTextPart output text out out' mid new → HoldsTextPart output text out out' old new
+part_over None text out out' old mid new same (appended, kept) = (appended, kept ∙ same)
+part_over (Some name) text out out' old mid new same holds = HoldsPart-over name text old mid new same holds
 
--- no refusal has the status of an output that was not written
-refusal_not_twelve : (refusal : Refusal) → refusal_status refusal ≡ 12 → ⊥
-refusal_not_twelve Usage twelve = cc
-refusal_not_twelve (TooLong limit unit) twelve = cc
-refusal_not_twelve (BadData kind place) twelve = cc
-refusal_not_twelve (BadSegment kind place segment) twelve = cc
-refusal_not_twelve (BadCheck given place wanted) twelve = cc
-refusal_not_twelve (BadOption text) twelve = cc
-refusal_not_twelve (NoFit misfit) twelve = cc
-refusal_not_twelve (BadImage fault) twelve = cc
-refusal_not_twelve (NoFinder x y) twelve = cc
-refusal_not_twelve (BadMode words) twelve = cc
-refusal_not_twelve (TooDamaged codewords check) twelve = cc
-refusal_not_twelve (BadWord place) twelve = cc
-refusal_not_twelve (BadSpelling place) twelve = cc
+faulted_over : (output : Option (List ℕ)) (Faulted : Type 0) (old mid new : ℕ) → mid ≡ old → WriteFaulted output Faulted (Rose mid new)
+    → WriteFaulted output Faulted (Rose old new)
+faulted_over None Faulted old mid new same faulted = faulted
+faulted_over (Some name) Faulted old mid new same faulted = subst (λ count. Rose count new) same faulted
 
--- why the input was not read
-pub reading_unanswered : (request : Request) (left : Option (List ℕ)) (files : Option FilesState) (input_faulted files_faulted : Type 0) (f : Fault)
-    → IsUnanswered request (content_of (request_origin request) left files) (ReadFaulted (request_origin request) input_faulted files_faulted) f
-    → status_of f ≡ 10 → ReadFails (before_of (settings request) left files) input_faulted files_faulted
-reading_unanswered request left files a b NoMemory why is = cc
-reading_unanswered request left files a b Unread why is = why
-reading_unanswered request left files a b Unwritten why is = absurd why
-reading_unanswered request left files a b (Refused refusal) why is = absurd (refusal_not_ten refusal is)
+-- what was read to its end stays so while the output is written
+ended_over : (origin : MessageOrigin) (Ended Mid New : Type 0) → (Mid → New) → HasEnded origin Ended Mid → HasEnded origin Ended New
+ended_over (from_text bytes) Ended Mid New later = λ ended. tt
+ended_over (from_input name) Ended Mid New later = elim (is_standard name) as (λ b. MatchBool b Ended Mid → MatchBool b Ended New) [ true ↦ λ ended. ended | false ↦ later ]
 
--- a fault that leaves a request unanswered is none of writing
-pub not_twelve_unanswered : (request : Request) (left : Option (List ℕ)) (files : Option FilesState) (faulted : Type 0) (f : Fault)
-    → IsUnanswered request (content_of (request_origin request) left files) faulted f → status_of f ≡ 12 → ⊥
-not_twelve_unanswered request left files faulted NoMemory why is = cc
-not_twelve_unanswered request left files faulted Unread why is = cc
-not_twelve_unanswered request left files faulted Unwritten why is = why
-not_twelve_unanswered request left files faulted (Refused refusal) why is = refusal_not_twelve refusal is
+-- only such an output has it
+twelve_unwritten : (fault : Fault) → status_of fault ≡ 12 → fault ≡ Unwritten
+twelve_unwritten NoMemory twelve = absurd (cc)
+twelve_unwritten Unread twelve = absurd (cc)
+twelve_unwritten Unwritten twelve = refl
+twelve_unwritten (Refused refusal) twelve = (let e = sym (refusal_inside refusal) ∙ ap is_outside twelve in absurd (cc))
 
--- nor is one of words that ask for nothing
-pub not_twelve_words : (outcome : Outcome) (f : Fault) → Refuses (asked outcome) f → status_of f ≡ 12 → ⊥
-not_twelve_words outcome NoMemory refused is = cc
-not_twelve_words outcome Unread refused is = refused
-not_twelve_words outcome Unwritten refused is = refused
-not_twelve_words outcome (Refused refusal) refused is = refusal_not_twelve refusal is
+-- what stops a step is no failure to write
+stopped_not_unwritten : {A : Type 0} (step : Step A Refusal) (content : Content) (faulted : Type 0) (fault : Fault) → IsStopped step content faulted fault
+    → fault ≡ Unwritten → ⊥
+stopped_not_unwritten step content faulted fault stopped is = subst (IsStopped step content faulted) is stopped
 
--- nor of reading
-pub not_ten_words : (outcome : Outcome) (f : Fault) → Refuses (asked outcome) f → status_of f ≡ 10 → ⊥
-not_ten_words outcome NoMemory refused is = cc
-not_ten_words outcome Unread refused is = refused
-not_ten_words outcome Unwritten refused is = refused
-not_ten_words outcome (Refused refusal) refused is = refusal_not_ten refusal is
+module _ {I O E : Type 0} (call : Call I O E) where
+  -- A call that ends before it writes leaves its output.
+  unwritten : (fault : Fault) → EndsWith call fault → call.status ≢ 0 → (fault ≡ Unwritten → ⊥)
+      → call.new.out.object ≡ call.old.out.object → SameFiles call.old.files.state call.new.files.state
+      → (OnRequest call (λ request. names_standard request.origin ≡ false) → call.new.input.object ≡ call.old.input.object)
+      → EndsWith call NoMemory ⊎ OnRequest call (λ request. IsFit request.task) → Ran call
+  unwritten fault ends some never out_kept same input_kept fit = promised call (record {
+    ends = inr (fault, ends);
+    written = λ zero. absurd (some zero);
+    quiet = λ zero. absurd (some zero);
+    silent = λ not_zero not_twelve. (out_kept, same);
+    out_kept = λ named. out_kept;
+    input_kept = input_kept;
+    ended = λ done. absurd (never_done done);
+    demonstration = λ zero. absurd (some zero);
+    fit = fit;
+  })
+    where
+      never_done : (call.status ≡ 0) ⊎ (call.status ≡ 12) → ⊥
+      never_done (inl zero) = some zero
+      never_done (inr twelve) = never (twelve_unwritten fault (sym ends.status_is ∙ twelve))
 
--- a call may end with a fault that leaves its request unanswered
-pub may_unanswered : (request : Request) (left : Option (List ℕ)) (files : Option FilesState) (faulted : Type 0) (f : Fault)
-    → IsUnanswered request (content_of (request_origin request) left files) faulted f → MayEnd (before_of (settings request) left files) f
-may_unanswered request left files faulted NoMemory why = tt
-may_unanswered request left files faulted Unread why = tt
-may_unanswered request left files faulted Unwritten why = absurd why
-may_unanswered request left files faulted (Refused refusal) responded = called_settings request left files (Err refusal) responded
+  -- The words ask for nothing, or for nothing that is.
+  pub not_asked : (fault : Fault) → Refuses (asked call.outcome) fault → call.status ≡ status_of fault → call.status ≢ 0
+      → WritesLine call.old.err.bytes call.new.err.bytes call.old.err.faults call.new.err.faults fault
+      → call.new.out.object ≡ call.old.out.object → SameFiles call.old.files.state call.new.files.state
+      → call.new.input.object ≡ call.old.input.object → Ran call
+  not_asked NoMemory refused status_is some line out_kept same input_kept =
+      let ends : EndsWith call NoMemory = record { cause = tt; status_is = status_is; line = line } in
+      unwritten NoMemory ends some (λ is. cc) out_kept same (λ unnamed. input_kept) (inl ends)
+  not_asked Unread refused status_is some line out_kept same input_kept = absurd refused
+  not_asked Unwritten refused status_is some line out_kept same input_kept = absurd refused
+  not_asked (Refused refusal) refused status_is some line out_kept same input_kept =
+      unwritten (Refused refusal) (record { cause = answers_misuse call refusal refused; status_is = status_is; line = line }) some (λ is. cc)
+      out_kept same (λ unnamed. input_kept) (inr (λ request is. absurd (not_refused call.outcome request refusal is refused)))
 
--- and with a refusal of its words
-pub may_words : (before : CallBefore) (f : Fault) → Refuses (asked before.outcome) f → MayEnd before f
-unfolding called
-may_words before NoMemory refused = tt
-may_words before Unread refused = tt
-may_words before Unwritten refused = absurd refused
-may_words before (Refused refusal) refused = inl refused
+  -- Why a request has no answer is why the call ended.
+  cause_stopped : (request : Request) → call.outcome ≡ settings request → (fault : Fault)
+      → IsStopped (responds request.task (content call request)) (content call request)
+      (ReadFaulted request.origin (Rose call.old.input.faults call.new.input.faults) (Rose call.old.files.reading_faults call.new.files.reading_faults)) fault
+      → HasCause call fault
+  cause_stopped request is NoMemory stopped = tt
+  cause_stopped request is Unread stopped = (request, is, stopped)
+  cause_stopped request is Unwritten stopped = absurd stopped
+  cause_stopped request is (Refused refusal) stopped = answers_request call request is (Err refusal) stopped
 
--- the status of such an end
-pub has_status : (before : CallBefore) (status : ℕ) (f : Fault) → MayEnd before f → status ≡ status_of f → HasStatus before status
-has_status before status f may is = inr (f, may, is)
+  pub not_answered : (request : Request) → call.outcome ≡ settings request → IsFit request.task → (fault : Fault)
+      → IsStopped (responds request.task (content call request)) (content call request)
+      (ReadFaulted request.origin (Rose call.old.input.faults call.new.input.faults) (Rose call.old.files.reading_faults call.new.files.reading_faults)) fault
+      → call.status ≡ status_of fault → call.status ≢ 0
+      → WritesLine call.old.err.bytes call.new.err.bytes call.old.err.faults call.new.err.faults fault
+      → call.new.out.object ≡ call.old.out.object → SameFiles call.old.files.state call.new.files.state
+      → (names_standard request.origin ≡ false → call.new.input.object ≡ call.old.input.object) → Ran call
+  not_answered request is fit fault stopped status_is some line out_kept same input_kept =
+      unwritten fault (record { cause = cause_stopped request is fault stopped; status_is = status_is; line = line }) some
+      (stopped_not_unwritten (responds request.task (content call request)) (content call request) _ fault stopped) out_kept same (λ unnamed. input_kept (unnamed request is))
+      (inr (on_request call (λ r. IsFit r.task) request is fit))
 
--- the line of such an end
-pub ends_with_line : (before : CallBefore) (status : ℕ) (HasLine : Fault → Type 0) (f : Fault) → MayEnd before f → status ≡ status_of f → HasLine f
-    → EndsWithLine before status HasLine
-ends_with_line before status HasLine f may is line = record { fault = f; may = may; status_is = is; line = line }
-
--- a call that has a text ends with 0, or with an output that was not written
-pub status_text : (before : CallBefore) (text : List ℕ) (status : ℕ) → called before (Ok text) → (status ≡ 0) ⊎ (status ≡ 12) → HasStatus before status
-status_text before text status answered (inl zero) = inl (zero, (text, answered))
-status_text before text status answered (inr twelve) = inr (Unwritten, (text, answered), twelve)
-
--- and its line is that of such an output
-pub line_text : (before : CallBefore) (text : List ℕ) (status : ℕ) (HasLine : Fault → Type 0) → called before (Ok text) → (status ≡ 0) ⊎ (status ≡ 12)
-    → (status ≡ 12 → HasLine Unwritten) → status ≢ 0 → EndsWithLine before status HasLine
-line_text before text status HasLine answered (inl zero) line some = absurd (some zero)
-line_text before text status HasLine answered (inr twelve) line some = record { fault = Unwritten; may = (text, answered); status_is = twelve; line = line twelve }
+  -- The output was written, or not whole. `mid` is what the files hold between reading and writing.
+  pub answered : (request : Request) → call.outcome ≡ settings request → IsFit request.task → (text : List ℕ) (mid : Option FilesState) (mid_faults : ℕ)
+      → responds request.task (content call request) (Ok text) → OnDemonstration request.task (λ number. ShowsNearGrid number text)
+      → HasEnded request.origin (IsAtEnd call.new.input.bytes) (IsAtEnd (left_of mid)) → SameFiles call.old.files.state mid
+      → mid_faults ≡ call.old.files.writing_faults
+      → (names_standard request.origin ≡ false → call.new.input.object ≡ call.old.input.object)
+      → (call.status ≡ 0) ⊎ (call.status ≡ 12)
+      → (call.status ≡ 0 → HoldsText request.output text call.old.out.bytes call.new.out.bytes mid call.new.files.state)
+      → (call.status ≡ 12 → HoldsTextPart request.output text call.old.out.bytes call.new.out.bytes mid call.new.files.state)
+      → (call.status ≡ 12 → WriteFaulted request.output (Rose call.old.out.faults call.new.out.faults) (Rose mid_faults call.new.files.writing_faults))
+      → (IsSome request.output → call.new.out.object ≡ call.old.out.object)
+      → (IsAtEnd (left_of mid) → IsAtEnd (left_of call.new.files.state))
+      → (call.status ≡ 0 → call.new.err.object ≡ call.old.err.object)
+      → (call.status ≡ 12 → WritesLine call.old.err.bytes call.new.err.bytes call.old.err.faults call.new.err.faults Unwritten) → Ran call
+  answered request is fit text mid mid_faults responds near read_end same counted input_kept status written part faulted out_kept later quiet line =
+      promised call (record {
+        ends = by_status status;
+        written = λ zero. (text, answers_request call request is (Ok text) responds, wrote zero);
+        quiet = quiet;
+        silent = λ not_zero not_twelve. absurd (never status not_zero not_twelve);
+        out_kept = λ named. out_kept (of_request call (λ r. IsSome r.output) request is named);
+        input_kept = λ unnamed. input_kept (unnamed request is);
+        ended = λ done. (request, is, ended_over request.origin _ _ _ later read_end);
+        demonstration = λ zero. on_request call _ request is (on_demonstration request.task _ _ (λ number near. (text, near, wrote zero)) near);
+        fit = inr (on_request call (λ r. IsFit r.task) request is fit);
+      })
+    where
+      wrote : call.status ≡ 0 → Wrote call text
+      wrote zero = (request, is, text_over request.output text _ _ call.old.files.state mid call.new.files.state same (written zero))
+      never : (call.status ≡ 0) ⊎ (call.status ≡ 12) → call.status ≢ 0 → call.status ≢ 12 → ⊥
+      never (inl zero) not_zero not_twelve = not_zero zero
+      never (inr twelve) not_zero not_twelve = not_twelve twelve
+      by_status : (call.status ≡ 0) ⊎ (call.status ≡ 12) → (call.status ≡ 0) ⊎ ((fault : Fault) × EndsWith call fault)
+      by_status (inl zero) = inl zero
+      by_status (inr twelve) = inr (
+        Unwritten,
+        record {
+          cause = record {
+            request = request;
+            asked = is;
+            text = text;
+            answers = answers_request call request is (Ok text) responds;
+            part = part_over request.output text _ _ call.old.files.state mid call.new.files.state same (part twelve);
+            faulted = faulted_over request.output _ call.old.files.writing_faults mid_faults call.new.files.writing_faults counted (faulted twelve);
+          };
+          status_is = twelve;
+          line = line twelve;
+        },
+      )

@@ -1,55 +1,26 @@
--- What may be answered to a call, step by step in the order of the refusals.
-use Rattle.std.specs.Prelude.{◌≡◌, ◌⊎◌, ◌++◌, ℕ, List, [], Option, Result, Ok, Err, String, map, string_bytes}
+-- What a call may answer, step by step in the order of the refusals.
+use Rattle.std.specs.Prelude.{◌≡◌, ◌++◌, ℕ, List, Option, Ok, Err, string_bytes}
 use Rattle.bar_base.specs.Files.{FilesState}
 use Rattle.bar_base.specs.GridText.{grid_text}
-use Rattle.bar_base.specs.Limits.{most_bytes, most_bmp_bytes}
+use Rattle.bar_base.specs.Limits.{most_bytes}
 use Rattle.bar_base.specs.Picture.{Picture}
 use Rattle.bar_base.specs.declared.paint.Paint.{Paint}
 use Rattle.bmp_io.specs.Bmp.{bmp_bytes}
 use Rattle.vector_out.specs.Drawing.{eps_text, svg_text}
-use Rattle.zint_texts.specs.Steps.{Step, ◌>>=◌, only}
-use Rattle.zint_texts.specs.declared.fault.Fault.{Fault}
-use Rattle.zint_texts.specs.declared.fault.Fault.TheVariants.{NoMemory, Unread, Unwritten, Refused}
-use Rattle.zint_texts.specs.declared.refusal.Refusal.{Refusal}
-use Rattle.zint_texts.specs.declared.refusal.Refusal.TheVariants.{Usage, BadOption}
-use Rattle.zint_words.specs.Outcome.{Outcome, outcome_of, usage, bad_option, settings}
-use Rattle.zint_words.specs.Settings.{DemonstrationRequest, DrawingRequest, MessageOrigin, ReadingRequest, Request, demonstration, drawing, reading, from_input, from_text}
-use Rattle.zint_words.specs.declared.drawing_options.DrawingOptions.{DrawingOptions}
-use Rattle.zint_words.specs.declared.form.Form.{Form}
-use Rattle.zint_words.specs.declared.form.Form.TheVariants.{Svg, Eps, Bmp, Grid, Report}
+use Rattle.bar_base.specs.Steps.{Step, ◌>>=◌, only}
+use Rattle.zint_answers.specs.declared.refusal.Refusal.TheVariants.{Usage, BadOption}
+use Rattle.zint_words.specs.Outcome.{Outcome, usage, bad_option, settings}
+use Rattle.zint_settings.specs.Settings.{DrawingRequest, Request, Task, demonstration, drawing, reading}
+use Rattle.zint_settings.specs.declared.drawing_options.DrawingOptions.{DrawingOptions}
+use Rattle.zint_settings.specs.declared.form.Form.{Form}
+use Rattle.zint_settings.specs.declared.form.Form.TheVariants.{Svg, Eps, Bmp, Grid, Report}
 use Rattle.zint_demo.specs.Demonstration.{demonstrates}
 use Rattle.zint_draw.specs.Drawing.{draws}
 use Rattle.zint_draw.specs.declared.symbologies.Symbol.{Symbol}
 use Rattle.zint_draw.specs.symbologies.{grid_of, head_of}
-use Rattle.zint_read.specs.ReadSteps.{reads}
-use Rattle.zint_cli.specs.Content.{Content, content_of, missing, raw_of}
-
--- What is known before a call: what comes of its words, what standard input has left, and the files.
-pub record CallBefore : Type 0 where
-  pub outcome : Outcome
-  pub left : Option (List ℕ)
-  pub files : Option FilesState
-
--- What is known before a call, put together of its three parts.
-abbrev pub before_of : Outcome → (left : Option (List ℕ)) → (files : Option FilesState) → CallBefore
-before_of outcome left files = record { outcome = outcome; left = left; files = files }
-
--- What is known before a call of these words, the first of which is the program's name.
-abbrev pub before : {Z : Type 0} → (words : List (String Z)) → (left : Option (List ℕ)) → (files : Option FilesState)
-    → CallBefore
-before words left files = before_of (outcome_of (map string_bytes words)) left files
-
--- Where the content of a request comes from. A demonstration has none but its number.
-abbrev pub request_origin : Request → MessageOrigin
-request_origin (drawing request) = request.origin
-request_origin (reading request) = from_input request.input
-request_origin (demonstration request) = from_text []
-
--- the file that a request names for its output
-abbrev pub output_of : Request → Option (List ℕ)
-output_of (drawing request) = request.output
-output_of (reading request) = request.output
-output_of (demonstration request) = request.output
+use Rattle.zint_read.specs.readers as readers
+use Rattle.zint_cli.specs.Content.{Content, content_of, raw_of}
+use Rattle.zint_answers.specs.declared.refusal.Refusal.{Refusal}
 
 -- the bytes of a grid in a form; `head` are the lines of the report before it
 abbrev pub form_text : Form → Paint → (head : List ℕ) → Picture → List ℕ
@@ -64,46 +35,43 @@ abbrev pub text_in : DrawingOptions → Symbol → List ℕ
 text_in options symbol = form_text options.form options.paint (head_of symbol) (grid_of options.height symbol)
 
 -- the request that the words make, or why they make none
-abbrev pub asked : Outcome → Step Request
+abbrev pub asked : Outcome → Step Request Refusal
 asked outcome (Ok request) = outcome ≡ settings request
 asked outcome (Err Usage) = outcome ≡ usage
 asked outcome (Err (BadOption text)) = outcome ≡ bad_option (string_bytes text)
 asked outcome (Err _) = ⊥
 
--- the text of the symbol that is drawn of a content
-unfoldable pub draws_text : DrawingRequest → Content → Step (List ℕ)
-draws_text request content = do
-  raw ← raw_of most_bytes content
+-- the text of the symbol that is drawn of bytes
+unfoldable pub drawn_text : DrawingRequest → (raw : List ℕ) → Step (List ℕ) Refusal
+drawn_text request raw = do
   symbol ← draws request raw
   only (Ok (text_in request.options symbol))
 
--- the report of the symbol that is read in a content
-unfoldable pub reads_text : ReadingRequest → Content → Step (List ℕ)
-reads_text request content = do
-  raw ← raw_of most_bmp_bytes content
-  reads request.paint raw
-
 -- the lines and the grid of the demonstration of a number
-unfoldable pub demonstration_lines : DemonstrationRequest → Step (List ℕ)
-demonstration_lines request = do
-  shown ← demonstrates request.number
+unfoldable pub demonstration_lines : (number : ℕ) → Step (List ℕ) Refusal
+demonstration_lines number = do
+  shown ← demonstrates number
   only (Ok (shown.lines.items ++ grid_text shown.grid))
 
--- the text that a request asks for
-abbrev pub responds : Request → Content → Step (List ℕ)
-responds (drawing request) content answer = draws_text request content answer
-responds (reading request) content answer = reads_text request content answer
-responds (demonstration request) content answer = demonstration_lines request answer
+-- the text that a task gives of bytes: a drawing of them, the report of what is read in them; a demonstration needs none
+abbrev pub answers : Task → (raw : List ℕ) → Step (List ℕ) Refusal
+answers (drawing request) raw answer = drawn_text request raw answer
+answers (reading look) raw answer = readers.reads look raw answer
+answers (demonstration number) raw answer = demonstration_lines number answer
 
--- the text that a call writes
-unfoldable pub called : CallBefore → Step (List ℕ)
-called before = do
-  request ← asked before.outcome
-  responds request (content_of (request_origin request) before.left before.files)
+-- the most bytes of a content that begins with `BM`: of a picture, where one is read
+abbrev pub picture_limit : Task → ℕ
+picture_limit (reading look) = readers.picture_limit look
+picture_limit _ = most_bytes
 
--- Why there is no text: the input was not read, for it is missing or a fault was counted; or the request is refused.
-abbrev pub IsUnanswered : Request → Content → (faulted : Type 0) → Fault → Type 0
-IsUnanswered request content faulted NoMemory = Unit {0}
-IsUnanswered request content faulted Unread = (content ≡ missing) ⊎ faulted
-IsUnanswered request content faulted Unwritten = ⊥
-IsUnanswered request content faulted (Refused refusal) = responds request content (Err refusal)
+-- the text that a task gives of a content
+unfoldable pub responds : Task → Content → Step (List ℕ) Refusal
+responds task content = do
+  raw ← raw_of (picture_limit task) content
+  answers task raw
+
+-- the text that a call writes, by what comes of its words, what standard input has left, and the files
+unfoldable pub called : Outcome → (left : Option (List ℕ)) → (files : Option FilesState) → Step (List ℕ) Refusal
+called outcome left files = do
+  request ← asked outcome
+  responds request.task (content_of request.origin left files)

@@ -1,17 +1,15 @@
 -- The content of the input that a request names.
-use Rattle.std.specs.Prelude.{◌≡◌, ◌<◌, ◌≤◌, ◌⊎◌, ℕ, Bool, List, Option, Some, None, false, length, codes, if◌then◌else◌, MatchBool, Result, Ok, Err}
+use Rattle.std.specs.Prelude.{◌≡◌, ◌<◌, ◌≤◌, ℕ, Bool, List, Option, Some, None, false, length, codes, if◌then◌else◌, MatchBool, Ok, Err}
 use Rattle.std.specs.FinMap.{get}
 use Rattle.std.specs.Str.{bytes_eq}
 use Rattle.bar_base.specs.Files.{FilesState}
 use Rattle.bar_base.specs.Input.{limit_for}
 use Rattle.bar_base.specs.Limits.{most_bytes}
-use Rattle.zint_texts.specs.Steps.{Step}
-use Rattle.zint_texts.specs.declared.detail.Unit.TheVariants.{Bytes}
-use Rattle.zint_texts.specs.declared.fault.Fault.{Fault}
-use Rattle.zint_texts.specs.declared.fault.Fault.TheVariants.{NoMemory, Unread, Unwritten, Refused}
-use Rattle.zint_texts.specs.declared.refusal.Refusal.{Refusal}
-use Rattle.zint_texts.specs.declared.refusal.Refusal.TheVariants.{TooLong}
-use Rattle.zint_words.specs.Settings.{MessageOrigin, from_text, from_input}
+use Rattle.bar_base.specs.Steps.{Step}
+use Rattle.zint_answers.specs.declared.detail.Unit.TheVariants.{Bytes}
+use Rattle.zint_answers.specs.declared.refusal.Refusal.{Refusal}
+use Rattle.zint_answers.specs.declared.refusal.Refusal.TheVariants.{TooLong}
+use Rattle.zint_settings.specs.Settings.{MessageOrigin, from_text, from_input}
 
 -- What is known of a content: its bytes; that it is missing, for there is no file of its name; or nothing.
 pub data Content : Type 0 where
@@ -38,7 +36,7 @@ named_content name (Some state) = file_content (get state.files name)
 abbrev pub is_standard : (name : List ℕ) → Bool
 is_standard name = bytes_eq name (codes "-")
 
--- The content of the message: the text itself, what is left of standard input, or the file of the name.
+-- The content that is drawn or read: the text itself, what is left of standard input, or the file of the name.
 abbrev pub content_of : MessageOrigin → (left : Option (List ℕ)) → (files : Option FilesState) → Content
 content_of (from_text bytes) left files = known bytes
 content_of (from_input name) left files = if is_standard name then content_left left else named_content name files
@@ -67,16 +65,9 @@ IsOverLimit picture_limit missing refusal = ⊥
 IsOverLimit picture_limit unknown refusal = (bytes : List ℕ) × IsPastLimit picture_limit bytes refusal
 
 -- The bytes of a content, as far as it is known; or that there are too many of them.
-abbrev pub raw_of : (picture_limit : ℕ) → Content → Step (List ℕ)
+abbrev pub raw_of : (picture_limit : ℕ) → Content → Step (List ℕ) Refusal
 raw_of picture_limit content (Ok raw) = IsContent content raw × (length raw ≤ limit_for most_bytes picture_limit raw)
 raw_of picture_limit content (Err refusal) = IsOverLimit picture_limit content refusal
-
--- Why a content was not taken: it is missing, or a fault was counted while it was read; or it is refused.
-abbrev pub IsUntaken : (picture_limit : ℕ) → Content → (faulted : Type 0) → Fault → Type 0
-IsUntaken picture_limit content faulted NoMemory = Unit {0}
-IsUntaken picture_limit content faulted Unread = (content ≡ missing) ⊎ faulted
-IsUntaken picture_limit content faulted Unwritten = ⊥
-IsUntaken picture_limit content faulted (Refused refusal) = raw_of picture_limit content (Err refusal)
 
 -- a fault was counted where the origin was read: standard input counts its own, and the files count those in reading
 abbrev pub ReadFaulted : MessageOrigin → (input_faulted files_faulted : Type 0) → Type 0

@@ -1,75 +1,78 @@
--- How a call ends, for all words and every outside: its status, and when each comes.
-use Rattle.std.specs.Prelude.{◌≡◌, ◌⊎◌, ℕ, List, Option, Ok, Err}
-use Rattle.zint_texts.specs.FaultLine.{status_of}
-use Rattle.zint_texts.specs.Refusals.{refusal_status}
-use Rattle.zint_texts.specs.declared.fault.Fault.{Fault}
-use Rattle.zint_texts.specs.declared.fault.Fault.TheVariants.{NoMemory, Unread, Unwritten, Refused}
-use Rattle.zint_texts.specs.declared.refusal.Refusal.{Refusal}
-use Rattle.zint_words.specs.Outcome.{Outcome, usage, bad_option, settings}
-use Rattle.zint_words.specs.Settings.{Request}
-use Rattle.zint_cli.specs.Call.{CallBefore, called, request_origin, output_of}
-use Rattle.zint_cli.specs.Content.{content_of, known, missing, ReadFaulted}
+-- The words in which the promise of a call is said: what it was asked for, what it wrote, and with which fault it ended.
+use Rattle.std.specs.Prelude.{◌≡◌, ◌⊎◌, ℕ, List, Result, Ok, Err}
+use Rattle.bar_base.specs.Faults.{Rose}
+use Rattle.zint_answers.specs.FaultLine.{status_of}
+use Rattle.zint_answers.specs.declared.fault.Fault.{Fault}
+use Rattle.zint_answers.specs.declared.fault.Fault.TheVariants.{NoMemory, Unread, Unwritten, Refused}
+use Rattle.zint_answers.specs.declared.refusal.Refusal.{Refusal}
+use Rattle.zint_words.specs.Outcome.{settings}
+use Rattle.zint_settings.specs.Settings.{Request}
+use Rattle.zint_cli.specs.Call.{called}
+use Rattle.zint_cli.specs.Content.{Content, ReadFaulted, content_of, known, missing}
+use Rattle.zint_cli.specs.Effects.{HoldsText, HoldsTextPart, WriteFaulted, WritesLine}
+use Rattle.zint_cli.specs.Outside.{Call}
 
--- The fact holds of the request that the words make, if they make one.
-abbrev pub OnRequest : Outcome → (Request → Type 0) → Type 0
-OnRequest usage Holds = Unit {0}
-OnRequest (bad_option detail) Holds = Unit {0}
-OnRequest (settings request) Holds = Holds request
+module _ {I O E : Type 0} (call : Call I O E) where
+  -- The fact holds of the request that the words make, if they make one.
+  abbrev pub OnRequest : (Request → Type 0) → Type 0
+  OnRequest Holds = (request : Request) → call.outcome ≡ settings request → Holds request
 
--- The words make a request, and the fact holds of it.
-abbrev pub ForRequest : Outcome → (Request → Type 0) → Type 0
-ForRequest usage Holds = ⊥
-ForRequest (bad_option detail) Holds = ⊥
-ForRequest (settings request) Holds = Holds request
+  -- The words make a request, and the fact holds of it.
+  abbrev pub ForRequest : (Request → Type 0) → Type 0
+  ForRequest Holds = (request : Request) × (call.outcome ≡ settings request) × Holds request
 
--- A call may end with a fault: any one for want of memory, or since its input cannot be read; one that has a text, since it cannot be
--- written; and one that is refused, with a refusal that is an answer to it.
-abbrev pub MayEnd : CallBefore → Fault → Type 0
-MayEnd before NoMemory = Unit {0}
-MayEnd before Unread = Unit {0}
-MayEnd before Unwritten = (text : List ℕ) × called before (Ok text)
-MayEnd before (Refused refusal) = called before (Err refusal)
+  -- The content that a request names: the text of `-d`, what standard input has left, or the file of the name of `-i`.
+  abbrev pub content : Request → Content
+  content request = content_of request.origin call.old.input.bytes call.old.files.state
 
--- The status of a call: 0 where it has a text, or that of a fault with which it may end.
-abbrev pub HasStatus : CallBefore → (status : ℕ) → Type 0
-HasStatus before status =
-    ((status ≡ 0) × ((text : List ℕ) × called before (Ok text)))
-    ⊎ ((fault : Fault) × MayEnd before fault × (status ≡ status_of fault))
+  -- The words make a request, and the content that it names is known.
+  abbrev pub IsKnown : Type 0
+  IsKnown = ForRequest (λ request. (bytes : List ℕ) × (content request ≡ known bytes))
 
--- Why the input was not read: it is missing, or a fault was counted.
-abbrev pub ReadFails : CallBefore → (input_faulted files_faulted : Type 0) → Type 0
-ReadFails before input_faulted files_faulted = ForRequest before.outcome (λ request.
-    (content_of (request_origin request) before.left before.files ≡ missing)
-    ⊎ ReadFaulted (request_origin request) input_faulted files_faulted)
+  -- A text, or a refusal, is an answer to the words, the input and the files.
+  abbrev pub Answers : Result (List ℕ) Refusal → Type 0
+  Answers answer = called call.outcome call.old.input.bytes call.old.files.state answer
 
--- The words make a request, and the content that it names is known.
-abbrev pub HasKnownContent : CallBefore → Type 0
-HasKnownContent before = ForRequest before.outcome (λ request.
-    (bytes : List ℕ) × (content_of (request_origin request) before.left before.files ≡ known bytes))
+  -- The text was written: standard output grew by exactly it, and all files are as they were; or, with `-o`, the file of the name holds
+  -- exactly it, and every other file is as it was.
+  abbrev pub Wrote : (text : List ℕ) → Type 0
+  Wrote text = ForRequest (λ request.
+      HoldsText request.output text call.old.out.bytes call.new.out.bytes call.old.files.state call.new.files.state)
 
--- Whatever text answers the call, it was written, as the fact says of where it is to be and of the text.
-abbrev pub WritesEach : CallBefore → (IsOut : (output : Option (List ℕ)) (text : List ℕ) → Type 0) → Type 0
-WritesEach before IsOut = (text : List ℕ) → called before (Ok text) → ForRequest before.outcome (λ request. IsOut (output_of request) text)
+  -- The input was not read: there is no file of the name, or a fault of reading was counted.
+  abbrev pub IsUnread : Type 0
+  IsUnread = ForRequest (λ request. (content request ≡ missing)
+      ⊎ ReadFaulted request.origin (Rose call.old.input.faults call.new.input.faults)
+      (Rose call.old.files.reading_faults call.new.files.reading_faults))
 
--- A call of known content that has a text ends with 0 or for want of memory, unless its reading or its writing failed.
-abbrev pub EndsComplete : CallBefore → (status : ℕ) → (read_failed write_failed : Type 0) → Type 0
-EndsComplete before status read_failed write_failed = HasKnownContent before → (text : List ℕ) → called before (Ok text)
-    → (read_failed → ⊥) → (write_failed → ⊥) → (status ≡ 0) ⊎ (status ≡ 11)
+  -- A text answers the call, and no more than a prefix of it was written where it was to be: a fault of writing was counted there.
+  pub record IsUnwritten : Type 0 where
+    pub request : Request
+    pub asked : call.outcome ≡ settings request
+    pub text : List ℕ
+    pub answers : Answers (Ok text)
+    pub part : HoldsTextPart request.output text call.old.out.bytes call.new.out.bytes call.old.files.state call.new.files.state
+    pub faulted : WriteFaulted request.output (Rose call.old.out.faults call.new.out.faults)
+        (Rose call.old.files.writing_faults call.new.files.writing_faults)
 
--- A call of known content that has a refusal ends with the status of that refusal or for want of memory, unless its reading failed.
-abbrev pub RefusesExactly : CallBefore → (status : ℕ) → (read_failed : Type 0) → Type 0
-RefusesExactly before status read_failed = HasKnownContent before → (refusal : Refusal) → called before (Err refusal)
-    → (read_failed → ⊥) → (status ≡ refusal_status refusal) ⊎ (status ≡ 11)
+  -- Why a call ends with a fault. A refusal is an answer to the call; want of memory may come at any call.
+  abbrev pub HasCause : Fault → Type 0
+  HasCause NoMemory = Unit {0}
+  HasCause Unread = IsUnread
+  HasCause Unwritten = IsUnwritten
+  HasCause (Refused refusal) = Answers (Err refusal)
 
--- The text of a call was written, as the fact says of where it is to be and of the text.
-pub record WritesText (before : CallBefore) (IsOut : (output : Option (List ℕ)) (text : List ℕ) → Type 0) : Type 0 where
-  pub text : List ℕ
-  pub is_answer : called before (Ok text)
-  pub out : ForRequest before.outcome (λ request. IsOut (output_of request) text)
+  -- The call ended with this fault: the fault has its cause, the status is that of the fault, and standard error grew by exactly the line
+  -- of the fault, or by a prefix of it where a fault was counted there.
+  pub record EndsWith (fault : Fault) : Type 0 where
+    pub cause : HasCause fault
+    pub status_is : call.status ≡ status_of fault
+    pub line : WritesLine call.old.err.bytes call.new.err.bytes call.old.err.faults call.new.err.faults fault
 
--- A call ended with a fault that has this status and with which it may end, and its line was written, as the fact says.
-pub record EndsWithLine (before : CallBefore) (status : ℕ) (HasLine : Fault → Type 0) : Type 0 where
-  pub fault : Fault
-  pub may : MayEnd before fault
-  pub status_is : status ≡ status_of fault
-  pub line : HasLine fault
+  -- The call failed before it wrote: memory was wanting (11), or the input was not read (10).
+  abbrev pub FailsEarly : Type 0
+  FailsEarly = EndsWith NoMemory ⊎ EndsWith Unread
+
+  -- The call failed: before it wrote, or the output was not written whole (12).
+  abbrev pub Fails : Type 0
+  Fails = FailsEarly ⊎ EndsWith Unwritten

@@ -1,8 +1,9 @@
 pub mod Call
 pub mod Content
-pub mod Demonstrated
 pub mod Effects
 pub mod Ending
 pub mod Headline
-pub mod OutputText
-pub mod ReadingBack
+pub mod Outside
+pub mod Rows
+pub mod Run
+pub mod inner

@@ -1,20 +1,20 @@
 //! The content of the input that is asked for.
-ghost use Rattle.std.specs.Prelude.{◌≡◌, ◌≤◌, false, IfOk, IfErr, OnOk, vec_len};
+ghost use Rattle.std.specs.Prelude.{◌≡◌, ◌≤◌, false, Ok, IfOk, IfErr, OnOk, vec_len};
 ghost use Rattle.std.specs.Option.{option_map};
 ghost use Rattle.std.specs.Io.KnownBytes.{IsAtEnd};
 ghost use Rattle.bar_base.specs.Faults.{Rose};
 ghost use Rattle.bar_base.specs.Files.{beside_left, left_of};
 ghost use Rattle.bar_base.specs.Input.{limit_for};
 ghost use Rattle.bar_base.specs.Limits.{most_bytes, most_bmp_bytes};
-ghost use Rattle.zint_words.specs.Settings.{from_input, origin_in};
-ghost use Rattle.zint_cli.specs.Content.{HasEnded, IsContent, IsUntaken, ReadFaulted, content_of, named_content, names_standard, content_left};
-ghost use Rattle.zint_cli.specs.Content.{known};
+ghost use Rattle.zint_settings.specs.Settings.{from_input, origin_in};
+ghost use Rattle.zint_cli.specs.Content.{HasEnded, IsContent, ReadFaulted, content_left, content_of, known, named_content, names_standard, raw_of};
+ghost use Rattle.zint_cli.specs.inner.Stopped.{IsUntaken};
 ghost use Rattle.bar_base.specs.Files.{SameFiles};
 
 use bar_base::{FileSource, Files, MOST_BYTES, Source, TakeFault, read_all};
 use std::alloc::Global;
-use zint_texts::{Fault, Refusal, Unit};
-use zint_words::Origin;
+use zint_answers::{Fault, Refusal, Unit};
+use zint_settings::Origin;
 
 /// More bytes are there than the limit that counts.
 fn too_long(limit: usize) -> Fault
@@ -23,15 +23,26 @@ fn too_long(limit: usize) -> Fault
     Fault::Refused(Refusal::TooLong(limit as u64, Unit::Bytes))
 }
 
-/// The bytes of a text, at most 65,536.
-#[tactic(auto, using(crate::proofs::ContentLemmas::limit_same))]
-fn take_text(alloc: Global, text: &str) -> Result<Vec<u8>, Fault>
-    ensures taken { IfOk result (λ bytes. IsContent (known text.now) bytes.items) }
-    ensures within { IfOk result (λ bytes. vec_len bytes ≤ limit_for most_bytes most_bytes bytes.items) }
-    ensures refused { IfErr result (IsUntaken most_bytes (known text.now) ⊥) }
+/// The limit that counts for bytes that begin so.
+fn limit_of(input: &[u8], picture_limit: usize) -> usize
+    ensures { result ≡ limit_for most_bytes picture_limit input.now }
 {
-    if text.len() > MOST_BYTES {
-        return Err(too_long(MOST_BYTES));
+    if input.starts_with(b"BM") {
+        picture_limit
+    } else {
+        MOST_BYTES
+    }
+}
+
+/// The bytes of a text, of which there are not too many.
+fn take_text(alloc: Global, text: &str, picture_limit: usize) -> Result<Vec<u8>, Fault>
+    ensures taken { IfOk result (λ bytes. IsContent (known text.now) bytes.items) }
+    ensures within { IfOk result (λ bytes. vec_len bytes ≤ limit_for most_bytes picture_limit bytes.items) }
+    ensures refused { IfErr result (IsUntaken picture_limit (known text.now) ⊥) }
+{
+    let limit = limit_of(text.as_bytes(), picture_limit);
+    if text.len() > limit {
+        return Err(too_long(limit));
     }
     match Vec::from_slice(alloc, text.as_bytes()) {
         Ok(bytes) => Ok(bytes),
@@ -109,9 +120,8 @@ fn take_file<F: Files>(
     take_open(alloc, files, picture_limit)
 }
 
-/// The content of the input of this name, read to its end: what is left of standard input, whose name is `-`, or a file. Where it
-/// begins with `BM` it has at most `picture_limit` bytes, which are at least 2, else at most 65,536.
-pub fn take_input<I: Source, F: Files>(
+/// The content of the input of this name, read to its end: what is left of standard input, whose name is `-`, or a file.
+fn take_input<I: Source, F: Files>(
     alloc: Global,
     name: &str,
     picture_limit: usize,
@@ -140,19 +150,21 @@ pub fn take_input<I: Source, F: Files>(
     }
 }
 
-/// The content of a message, at most 65,536 bytes: the text, what is left of standard input, whose name is `-`, or a file. An input is
-/// read to its end; a text leaves it as it is.
+/// The content that is drawn or read: the text, what is left of standard input, whose name is `-`, or a file. Where it begins with `BM`
+/// it has at most `picture_limit` bytes, which are at least 2, else at most 65,536. An input is read to its end; a text leaves it as it is.
 pub fn take_content<I: Source, F: Files>(
     alloc: Global,
     origin: Origin<'_>,
+    picture_limit: usize,
     input: &mut I,
     files: &mut F,
 ) -> Result<Vec<u8>, Fault>
-    ensures taken { IfOk result
-        (λ bytes. IsContent (content_of (origin_in origin.entry) (I.left input.old) (F.state files.old)) bytes.items) }
-    ensures within { IfOk result (λ bytes. vec_len bytes ≤ limit_for most_bytes most_bytes bytes.items) }
+    requires some { 2 ≤ picture_limit }
+    requires few { picture_limit ≤ most_bmp_bytes }
+    ensures taken { IfOk result (λ bytes.
+        raw_of picture_limit (content_of (origin_in origin.entry) (I.left input.old) (F.state files.old)) (Ok bytes.items)) }
     ensures refused { IfErr result
-        (IsUntaken most_bytes (content_of (origin_in origin.entry) (I.left input.old) (F.state files.old))
+        (IsUntaken picture_limit (content_of (origin_in origin.entry) (I.left input.old) (F.state files.old))
         (ReadFaulted (origin_in origin.entry) (Rose (I.faults input.old) (I.faults input.new))
         (Rose (F.reading_faults files.old) (F.reading_faults files.new)))) }
     ensures ended { OnOk result
@@ -162,7 +174,7 @@ pub fn take_content<I: Source, F: Files>(
     ensures writing_count { F.writing_faults files.new ≡ F.writing_faults files.old }
 {
     match origin {
-        Origin::Text(text) => take_text(alloc, text),
-        Origin::Input(name) => take_input(alloc, name, MOST_BYTES, input, files),
+        Origin::Text(text) => take_text(alloc, text, picture_limit),
+        Origin::Input(name) => take_input(alloc, name, picture_limit, input, files),
     }
 }

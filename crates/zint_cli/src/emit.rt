@@ -5,8 +5,8 @@ ghost use Rattle.std.specs.Io.KnownBytes.{Appends, IsAtEnd};
 ghost use Rattle.bar_base.specs.Faults.{HasCause, Rose};
 ghost use Rattle.bar_base.specs.Files.{beside_held, held_of, left_of};
 ghost use Rattle.bar_base.specs.Outside.{AppendsPrefix};
-ghost use Rattle.zint_cli.specs.OutputText.{output_text};
-ghost use Rattle.zint_cli.specs.Effects.{HoldsText, HoldsTextPart, WriteFaulted, after};
+ghost use Rattle.zint_cli.specs.inner.OutputText.{output_text};
+ghost use Rattle.zint_cli.specs.Effects.{HoldsText, HoldsTextPart, WriteFaulted};
 ghost use Rattle.bar_base.specs.Files.{HoldsFile, HoldsPart};
 
 use crate::output::{Output, write_output};
@@ -51,14 +51,14 @@ pub fn emit<F: Files, O: Sink>(
     out: &mut O,
 ) -> Result<(), Failed>
     ensures whole { OnOk result
-        (HoldsText (after (O.held out.old) (O.held out.new) (F.state files.old) (F.state files.new))
-        (option_map (λ name. name.now) name.entry) (output_text output)) }
+        (HoldsText (option_map (λ name. name.now) name.entry) (output_text output)
+        (O.held out.old) (O.held out.new) (F.state files.old) (F.state files.new)) }
     ensures part { OnErr result
-        (HoldsTextPart (after (O.held out.old) (O.held out.new) (F.state files.old) (F.state files.new))
-        (option_map (λ name. name.now) name.entry) (output_text output)) }
+        (HoldsTextPart (option_map (λ name. name.now) name.entry) (output_text output)
+        (O.held out.old) (O.held out.new) (F.state files.old) (F.state files.new)) }
     ensures cause { OnErr result (WriteFaulted (option_map (λ name. name.now) name.entry)
         (Rose (O.faults out.old) (O.faults out.new)) (Rose (F.writing_faults files.old) (F.writing_faults files.new))) }
-    ensures out_kept { IsSome name.entry → out.new ≡ out.old }
+    ensures out_kept { IsSome (option_map (λ name. name.now) name.entry) → out.new ≡ out.old }
     ensures reading_count { F.reading_faults files.new ≡ F.reading_faults files.old }
     ensures ended { IsAtEnd (left_of (F.state files.old)) → IsAtEnd (left_of (F.state files.new)) }
 {

@@ -9,7 +9,7 @@ ghost use Rattle.bmp_io.specs.Bmp.{bmp_bytes};
 ghost use Rattle.zint_draw.specs.Height.{IsLowSymbol};
 ghost use Rattle.zint_draw.specs.symbologies.{grid_of, head_of};
 ghost use Rattle.zint_cli.specs.Call.{text_in};
-ghost use Rattle.zint_cli.specs.OutputText.{output_text};
+ghost use Rattle.zint_cli.specs.inner.OutputText.{output_text};
 
 use crate::painted::{Bitmap, Painted};
 use bar_base::{Failed, Grid, NoMemory, Paint, Sink, write_all};
@@ -17,7 +17,7 @@ use bmp_io::{stride, write_bmp};
 use std::alloc::Global;
 use vector_out::{write_eps, write_grid, write_svg};
 use zint_draw::Symbol;
-use zint_words::{DrawingSettings, Form};
+use zint_settings::{DrawingSettings, Form};
 
 /// The room for rows of pixels that is lent at least: many rows of a small picture are written in one piece.
 const ROOM: usize = 65_536;

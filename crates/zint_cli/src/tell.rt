@@ -1,10 +1,10 @@
 //! The line that says why a call has no whole output.
 ghost use Rattle.std.specs.Prelude.{◌≡◌, ◌≢◌};
-ghost use Rattle.zint_texts.specs.FaultLine.{status_of};
+ghost use Rattle.zint_answers.specs.FaultLine.{status_of};
 ghost use Rattle.zint_cli.specs.Effects.{WritesLine};
 
 use bar_base::Sink;
-use zint_texts::{Fault, write_fault};
+use zint_answers::{Fault, write_fault};
 
 /// Writes the line of a fault, and gives its status. It takes no memory. Where the writing fails, a prefix was written and the status
 /// is the same.

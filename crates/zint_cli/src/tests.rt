@@ -62,7 +62,7 @@ fn call(alloc: Global, words: &[&str], input: &[u8], fails: &Fails<'_>) -> Resul
     })
 }
 
-/// The report of `Code 2D!`: the lines before the grid in one write, and the grid in another.
+/// The report of `Code 2D!`: the lines before the grid in one write, and each line of the grid in one more.
 const HEAD: &str =
     "symbol=92\nbits=56\nspelling=00100111001000000101001101111000010100111100101000000110\nsize=compact 1\nside=15\ncodewords=10+7\ngrid:\n";
 
@@ -86,6 +86,55 @@ fn each_failing_write_leaves_a_prefix(rt: HostRuntime) -> Result<(), Fail> {
     assert!(rt; left.out.bytes().starts_with(HEAD.as_bytes()));
     assert!(rt; left.out.bytes().ends_with(GRID.as_bytes()));
     assert_eq!(rt; left.out.bytes().len(), HEAD.len() + GRID.len());
+    Ok(())
+}
+
+/// The writes of that report.
+const WRITES: u64 = 16;
+
+/// The bytes of a line of that grid.
+const LINE: usize = 16;
+
+#[test]
+fn each_write_of_a_report_can_fail(rt: HostRuntime) -> Result<(), Fail> {
+    let words = ["-b", "92", "-d", "Code 2D!", "--filetype=report"];
+    for number in 1..WRITES + 1 {
+        let fails = [number];
+        let left = call(
+            rt.alloc(),
+            &words,
+            b"",
+            &Fails {
+                out: &fails,
+                ..NONE
+            },
+        )?;
+        assert_eq!(rt; left.status, 12);
+        let lines = (number as usize - 1).saturating_sub(1);
+        let written = if number == 1 {
+            0
+        } else {
+            HEAD.len() + lines * LINE
+        };
+        assert_eq!(rt; left.out.bytes().len(), written);
+        if number > 1 {
+            assert!(rt; left.out.bytes().starts_with(HEAD.as_bytes()));
+            assert!(rt; left.out.bytes().ends_with(&GRID.as_bytes()[..lines * LINE]));
+        }
+    }
+    let past = [WRITES + 1];
+    let left = call(rt.alloc(), &words, b"", &Fails { out: &past, ..NONE })?;
+    assert_eq!(rt; left.status, 0);
+    Ok(())
+}
+
+#[test]
+fn a_second_failing_write_leaves_the_first_line(rt: HostRuntime) -> Result<(), Fail> {
+    let second = Fails { out: &[2], ..NONE };
+    let left = call(rt.alloc(), &["-b", "128", "-d", "0"], b"", &second)?;
+    assert_eq!(rt; left.status, 12);
+    assert_eq!(rt; left.out.bytes(), b"11101010101\n".as_slice());
+    assert_eq!(rt; left.err.bytes(), b"error 12: write\n".as_slice());
     Ok(())
 }
 

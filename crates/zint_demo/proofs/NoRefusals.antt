@@ -1,10 +1,10 @@
 -- A demonstration is never refused.
 use Rattle.std.proofs.Common.{◌≡◌, inl, inr, ℕ, List, [], Ok, Err, refl}
 use Rattle.std.specs.Prelude.{IfErr, Result}
-use Rattle.zint_texts.specs.Steps.{MayAnswer}
-use Rattle.zint_texts.specs.declared.fault.Fault.{Fault}
-use Rattle.zint_texts.specs.declared.fault.Fault.TheVariants.{NoMemory, Unread, Unwritten, Refused}
-use Rattle.zint_texts.specs.declared.refusal.Refusal.{Refusal}
+use Rattle.zint_answers.specs.Steps.{MayAnswer}
+use Rattle.zint_answers.specs.declared.fault.Fault.{Fault}
+use Rattle.zint_answers.specs.declared.fault.Fault.TheVariants.{NoMemory, Unread, Unwritten, Refused}
+use Rattle.zint_answers.specs.declared.refusal.Refusal.{Refusal}
 use Rattle.zint_demo.specs.Demonstration.{adds_line, demonstrates_text, shows_last_symbol}
 use Rattle.zint_demo.specs.declared.demonstration.Demonstration.{Demonstration}
 

@@ -1,5 +1,5 @@
 -- A number has one demonstration.
-use Rattle.std.proofs.Common.{◌≡◌, ◌⊎◌, ◌<◌, ◌+◌, ◌*◌, ℕ, Bool, true, false, List, [], ◌++◌, Option, Some, None, length, take, refl, sym, ap, subst, ◌∙◌, inl, inr, arith}
+use Rattle.std.proofs.Common.{◌≡◌, ◌⊎◌, ◌<◌, ℕ, Bool, true, false, List, [], ◌++◌, Option, Some, None, length, take, refl, sym, ap, subst, ◌∙◌, inl, inr, arith}
 use Rattle.std.specs.Prelude.{Result, Ok, Err, codes}
 use Rattle.std.proofs.lemmas.List.{length-replicate}
 use Rattle.bar_base.specs.GridText.{grid_text}
@@ -12,9 +12,9 @@ use Rattle.aztec_layout.specs.SymbolGrid.{IsSquare}
 use Rattle.aztec_layout.proofs.SymbolLemmas.{same_picture}
 use Rattle.aztec_draw.specs.declared.symbol.AztecSymbol.{AztecSymbol}
 use Rattle.aztec_draw.proofs.OneSymbol.{aztec_symbol_once}
-use Rattle.zint_texts.specs.Steps.{◌>>=◌, only}
-use Rattle.zint_texts.specs.declared.refusal.Refusal.{Refusal}
-use Rattle.zint_texts.proofs.OneStep.{IsOne, only_one, then_one, value_of}
+use Rattle.bar_base.specs.Steps.{◌>>=◌, only}
+use Rattle.zint_answers.specs.declared.refusal.Refusal.{Refusal}
+use Rattle.bar_base.proofs.OneStep.{IsOne, only_one, then_one, value_of}
 use Rattle.zint_demo.specs.Damage.{IsDamaged, IsTurned}
 use Rattle.zint_demo.specs.Demonstration.{adds_line, demonstrates, demonstrates_text, draws_bytes, demonstration_line, shows_last_symbol}
 use Rattle.zint_demo.specs.Text.{demonstration_text}

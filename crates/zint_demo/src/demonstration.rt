@@ -1,7 +1,7 @@
 //! The demonstration of a number.
 ghost use Rattle.std.specs.Prelude.{◌≡◌, ◌++◌, ◌<◌, ◌≤◌, IfErr, IfOk, OnOk, length};
-ghost use Rattle.zint_texts.specs.Steps.{MayAnswer};
-ghost use Rattle.zint_texts.specs.declared.fault.Fault.TheVariants as fault;
+ghost use Rattle.zint_answers.specs.Steps.{MayAnswer};
+ghost use Rattle.zint_answers.specs.declared.fault.Fault.TheVariants as fault;
 ghost use Rattle.zint_demo.specs.Demonstration.{IsNearDrawing, adds_line, demonstrates, demonstrates_text, draws_bytes, demonstration_line, shows_last_symbol};
 ghost use Rattle.zint_demo.specs.Text.{demonstration_text};
 
@@ -11,7 +11,7 @@ use aztec_draw::{AztecSymbol, DrawFault, draw_elements};
 use aztec_layout::{Allowed, codewords};
 use bar_base::{Grid, NoMemory};
 use std::alloc::Global;
-use zint_texts::{Fault, put_number, put_size, put_text};
+use zint_answers::{Fault, put_number, put_size, put_text};
 
 /// The share of check codewords in percent.
 const SHARE: u32 = 23;
@@ -40,7 +40,7 @@ pub fn demonstrate(alloc: Global, number: u32) -> Result<Demonstration, Fault>
 }
 
 /// The demonstration of a text.
-#[tactic(auto, using(zint_texts::proofs::Steps::stepping), unfolding(crate::specs::Demonstration::demonstrates_text))]
+#[tactic(auto, using(zint_answers::proofs::Steps::stepping), unfolding(crate::specs::Demonstration::demonstrates_text))]
 fn demonstrate_text(alloc: Global, text: &[u8]) -> Result<Demonstration, Fault>
     requires { length text.now ≡ 1500 }
     ensures given { MayAnswer (λ shown. shown) result (demonstrates_text text.now) }
@@ -55,7 +55,7 @@ fn demonstrate_text(alloc: Global, text: &[u8]) -> Result<Demonstration, Fault>
 }
 
 /// The lines with that of a prefix of the text behind them.
-#[tactic(auto, using(zint_texts::proofs::Steps::stepping), unfolding(crate::specs::Demonstration::adds_line))]
+#[tactic(auto, using(zint_answers::proofs::Steps::stepping), unfolding(crate::specs::Demonstration::adds_line))]
 fn with_line(alloc: Global, lines: Vec<u8>, text: &[u8], count: usize) -> Result<Vec<u8>, Fault>
     requires some { 0 < count }
     requires inside { count ≤ length text.now }
@@ -70,7 +70,7 @@ fn with_line(alloc: Global, lines: Vec<u8>, text: &[u8], count: usize) -> Result
 
 /// The lines with that of the whole text and the line `grid:` behind them, and the modules of the text's symbol,
 /// damaged.
-#[tactic(auto, using(zint_texts::proofs::Steps::stepping), unfolding(crate::specs::Demonstration::shows_last_symbol))]
+#[tactic(auto, using(zint_answers::proofs::Steps::stepping), unfolding(crate::specs::Demonstration::shows_last_symbol))]
 fn with_grid(alloc: Global, lines: Vec<u8>, text: &[u8]) -> Result<Demonstration, Fault>
     requires { length text.now ≡ 1500 }
     ensures given { MayAnswer (λ shown. shown) result (shows_last_symbol lines.items text.now) }

@@ -3,7 +3,7 @@ use Rattle.std.proofs.Common.{◌≡◌, ◌≤◌, ◌+◌, ℕ, zero, suc, Boo
 use Rattle.std.specs.List.{fold}
 use Rattle.bar_base.specs.Paint.{modules_high}
 use Rattle.bar_base.specs.Picture.{Picture, with_height}
-use Rattle.bar_base.specs.Steps.{◌>>=◌}
+use Rattle.bar_base.specs.Results.{◌>>=◌}
 use Rattle.bar_base.specs.Stripes.{row_picture}
 use Rattle.bar_base.specs.Text.{values_of_text}
 use Rattle.bar_base.specs.declared.element.Element.{Element}
@@ -20,11 +20,13 @@ use Rattle.linear_codes.specs.declared.code93_symbol.TheConstants.{CODE93_MOST_B
 use Rattle.linear_codes.specs.declared.itf14_symbol.TheConstants.{ITF14_MOST_DIGITS}
 use Rattle.four_state.specs.FourState.{indices_of, rm4scc_of, rm4scc_picture, rm4scc_symbol}
 use Rattle.four_state.specs.declared.symbol.TheConstants.{RM4SCC_MOST_BYTES}
-use Rattle.zint_texts.specs.Steps.{MayAnswer, only}
-use Rattle.zint_texts.specs.declared.fault.Fault.{Fault}
-use Rattle.zint_words.specs.Settings.{DrawingRequest}
-use Rattle.zint_words.specs.declared.symbology.Symbology.{Symbology}
-use Rattle.zint_words.specs.declared.symbology.Symbology.TheVariants as symbology
+use Rattle.bar_base.specs.Steps.{only}
+use Rattle.zint_answers.specs.declared.refusal.Refusal.{Refusal}
+use Rattle.zint_answers.specs.Steps.{MayAnswer}
+use Rattle.zint_answers.specs.declared.fault.Fault.{Fault}
+use Rattle.zint_settings.specs.Settings.{DrawingRequest}
+use Rattle.zint_settings.specs.declared.symbology.Symbology.{Symbology}
+use Rattle.zint_settings.specs.declared.symbology.Symbology.TheVariants as symbology
 use Rattle.zint_draw.specs.Drawing.{draws}
 use Rattle.zint_draw.specs.Height.{IsLowSymbol}
 use Rattle.zint_draw.specs.declared.symbologies.Symbol.{Symbol}
@@ -140,7 +142,7 @@ code128_low named elements (symbol.Linear other s) is = absurd is
 code128_low named elements (symbol.FourState s) is = absurd is
 
 -- a symbol of one row
-linear_low : (named : Symbology) (s : Linear) (drawn : Symbol) → only (Ok (symbol.Linear named s)) (Ok drawn) → s.grid.heights ≡ 1 ∷ [] → IsLowSymbol drawn
+linear_low : (named : Symbology) (s : Linear) (drawn : Symbol) → only {E = Refusal} (Ok (symbol.Linear named s)) (Ok drawn) → s.grid.heights ≡ 1 ∷ [] → IsLowSymbol drawn
 linear_low named s drawn is one =
     let same : drawn ≡ symbol.Linear named s = cc in
     subst IsLowSymbol (sym same) (row_low s.grid one)

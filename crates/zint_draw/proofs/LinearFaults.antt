@@ -4,8 +4,8 @@ use Rattle.bar_base.specs.Text.{refusal_of}
 use Rattle.bar_base.specs.declared.linear.Linear.{Linear}
 use Rattle.bar_base.specs.declared.linear.LinearFault.{LinearFault}
 use Rattle.bar_base.specs.declared.linear.LinearFault.TheVariants as linear_variants
-use Rattle.zint_texts.specs.Steps.{Refuses, answered}
-use Rattle.zint_texts.specs.declared.fault.Fault.{Fault}
+use Rattle.zint_answers.specs.Steps.{Refuses, answered}
+use Rattle.zint_answers.specs.declared.fault.Fault.{Fault}
 use Rattle.zint_draw.specs.symbologies.Linear.{linear_fault}
 
 -- a fault of drawing is one of the step

@@ -24,10 +24,10 @@ use Rattle.gs1_check.specs.ElementStrings.{ElementString, HasBody, body_behind, 
 use Rattle.gs1_check.specs.declared.brackets.Brackets.{Brackets}
 use Rattle.gs1_check.specs.declared.fault.Gs1Fault.{Gs1Fault}
 use Rattle.gs1_check.specs.declared.fault.Gs1Fault.TheVariants as gs1_variants
-use Rattle.zint_texts.specs.Steps.{Refuses, answered}
-use Rattle.zint_texts.specs.declared.fault.Fault.{Fault}
-use Rattle.zint_words.specs.Numbers.{is_character_set}
-use Rattle.zint_words.specs.declared.values.TheConstants.{CHARACTER_SETS}
+use Rattle.zint_answers.specs.Steps.{Refuses, answered}
+use Rattle.zint_answers.specs.declared.fault.Fault.{Fault}
+use Rattle.zint_settings.specs.CharacterSets.{is_character_set}
+use Rattle.zint_settings.specs.declared.character_sets.TheConstants.{CHARACTER_SETS}
 use Rattle.zint_draw.specs.Message.{CanBeDrawn, IsKnownEci, gs1_fault, message_with}
 
 -- one byte more is one element more

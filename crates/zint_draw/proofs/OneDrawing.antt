@@ -17,11 +17,11 @@ use Rattle.linear_codes.specs.Code39.{code39_full_of, code39_of}
 use Rattle.linear_codes.specs.Code93.{code93_of}
 use Rattle.linear_codes.specs.Itf14.{itf14_of}
 use Rattle.four_state.specs.FourState.{rm4scc_of}
-use Rattle.zint_texts.specs.declared.refusal.Refusal.TheVariants.{NoFit}
-use Rattle.zint_words.specs.Settings.{DrawingRequest}
-use Rattle.zint_words.specs.declared.drawing_options.DrawingOptions.{DrawingOptions}
-use Rattle.zint_words.specs.declared.symbology.Symbology.{Symbology}
-use Rattle.zint_words.specs.declared.symbology.Symbology.TheVariants as symbology
+use Rattle.zint_answers.specs.declared.refusal.Refusal.TheVariants.{NoFit}
+use Rattle.zint_settings.specs.Settings.{DrawingRequest}
+use Rattle.zint_settings.specs.declared.drawing_options.DrawingOptions.{DrawingOptions}
+use Rattle.zint_settings.specs.declared.symbology.Symbology.{Symbology}
+use Rattle.zint_settings.specs.declared.symbology.Symbology.TheVariants as symbology
 use Rattle.zint_draw.specs.Data.{not_empty}
 use Rattle.zint_draw.specs.Drawing.{draws}
 use Rattle.zint_draw.specs.Segments.{within_bytes}
@@ -37,7 +37,8 @@ use Rattle.zint_draw.specs.symbologies.FourState.{draws_four_state}
 use Rattle.zint_draw.specs.symbologies.Itf14.{draws14}
 use Rattle.zint_draw.specs.symbologies.Rune.{draws_rune, draws_value, rune_value}
 use Rattle.zint_draw.proofs.OneMessage.{data_one, message_one, whole_message_one}
-use Rattle.zint_texts.proofs.OneStep.{IsOne, answered_one, only_one, then_one}
+use Rattle.bar_base.proofs.OneStep.{IsOne, only_one, then_one}
+use Rattle.zint_answers.proofs.OneStep.{answered_one}
 
 -- Elements have one Aztec symbol, or one refusal.
 aztec_one : (request : DrawingRequest) (elements : List Element) → IsOne (draws_elements request elements)

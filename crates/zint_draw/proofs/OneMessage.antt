@@ -6,18 +6,19 @@ use Rattle.gs1_check.specs.ElementStrings.{brackets_of, text_body}
 use Rattle.input_escapes.specs.Escapes.{Head, out_of_range, short, unknown}
 use Rattle.input_escapes.specs.Texts.{StandsFor, Stops}
 use Rattle.input_escapes.proofs.Uniqueness.{IsNoPiece, only_bytes, stands_for_none, stops_once}
-use Rattle.zint_texts.specs.Steps.{Step, only}
-use Rattle.zint_texts.specs.declared.detail.Kind.TheVariants.{Character, Escape}
-use Rattle.zint_texts.specs.declared.refusal.Refusal.{Refusal}
-use Rattle.zint_texts.specs.declared.refusal.Refusal.TheVariants.{BadData}
-use Rattle.zint_words.specs.Settings.{DrawingRequest, SegmentText}
-use Rattle.zint_words.specs.declared.drawing_options.DrawingOptions.{DrawingOptions}
+use Rattle.bar_base.specs.Steps.{Step, only}
+use Rattle.zint_answers.specs.declared.detail.Kind.TheVariants.{Character, Escape}
+use Rattle.zint_answers.specs.declared.refusal.Refusal.{Refusal}
+use Rattle.zint_answers.specs.declared.refusal.Refusal.TheVariants.{BadData}
+use Rattle.zint_settings.specs.Settings.{DrawingRequest, SegmentText}
+use Rattle.zint_settings.specs.declared.drawing_options.DrawingOptions.{DrawingOptions}
 use Rattle.zint_draw.specs.Data.{IsBadEscape, data_of, not_empty, unescaped}
 use Rattle.zint_draw.specs.Message.{data_kind, encoded_in, gs1_fault, gs1_message, latin1_message, message_for, set_for, text_message, whole_text}
 use Rattle.zint_draw.specs.Segments.{in_segment, message_of, segment_elements, segment_kind, segments_elements, told_of}
 use Rattle.zint_draw.specs.declared.message.DataKind.{DataKind}
 use Rattle.zint_draw.specs.declared.message.DataKind.TheVariants as kind
-use Rattle.zint_texts.proofs.OneStep.{IsOne, answered_one, either_one, error_of, only_one, then_one, value_of}
+use Rattle.bar_base.proofs.OneStep.{IsOne, either_one, error_of, only_one, then_one, value_of}
+use Rattle.zint_answers.proofs.OneStep.{answered_one}
 
 -- A backslash stops a text, with a head that begins no piece.
 record IsStopped (text : List ℕ) (place : ℕ) : Type 0 where
@@ -88,7 +89,7 @@ message_one (kind.Bytes eci) bytes = only_one _
 message_one (kind.Text eci) bytes = text_one eci bytes
 message_one kind.Latin1 bytes = latin1_one bytes
 
-in_segment_one : {A : Type 0} (number : ℕ) (step : Step A) → IsOne step → IsOne (in_segment number step)
+in_segment_one : {A : Type 0} (number : ℕ) (step : Step A Refusal) → IsOne step → IsOne (in_segment number step)
 in_segment_one number step once (Ok a) (Ok b) p q = once (Ok a) (Ok b) p q
 in_segment_one number step once (Ok a) (Err s) p (own, is_own, is) = let e = once (Ok a) (Err own) p is_own in cc
 in_segment_one number step once (Err r) (Ok b) (own, is_own, is) q = let e = once (Err own) (Ok b) is_own q in cc

@@ -24,12 +24,12 @@ use Rattle.gs1_check.specs.declared.brackets.Brackets.TheVariants.{Round, Square
 use Rattle.gs1_check.specs.declared.fault.Gs1Fault.{Gs1Fault}
 use Rattle.gs1_check.specs.declared.fault.Gs1Fault.TheVariants.{BadBracket}
 use Rattle.gs1_check.specs.declared.identifiers.Format.{Format}
-use Rattle.zint_texts.specs.Steps.{only}
-use Rattle.zint_texts.specs.declared.detail.Kind.TheVariants.{Text}
-use Rattle.zint_texts.specs.declared.refusal.Refusal.{Refusal}
-use Rattle.zint_texts.specs.declared.refusal.Refusal.TheVariants.{BadData}
-use Rattle.zint_words.specs.SetPlace.{IsSetPlace}
-use Rattle.zint_words.specs.Settings.{DrawingRequest}
+use Rattle.bar_base.specs.Steps.{only}
+use Rattle.zint_answers.specs.declared.detail.Kind.TheVariants.{Text}
+use Rattle.zint_answers.specs.declared.refusal.Refusal.{Refusal}
+use Rattle.zint_answers.specs.declared.refusal.Refusal.TheVariants.{BadData}
+use Rattle.zint_settings.specs.SetPlace.{IsSetPlace}
+use Rattle.zint_settings.specs.Settings.{DrawingRequest}
 use Rattle.zint_draw.specs.Message.{CanBeDrawn, data_kind, encoded_in, gs1_message, latin1_message, message_for, message_with, text_message, whole_text}
 use Rattle.zint_draw.specs.Segments.{continued, message_of}
 use Rattle.zint_draw.specs.declared.message.DataKind.{DataKind}
@@ -172,7 +172,7 @@ encoded_start eci bytes text encoded some is_text is =
     (some_encoded (set_numbered eci) text encoded (encoded_of (set_numbered eci) text encoded utf8 is)
     (subst (λ (t : List ℕ). 0 < length t) (sym whole.0) some))
 
-same_start : (message other : Message) → only (Ok other) (Ok message) → StartsWithByte other.body → StartsWithByte message.body
+same_start : (message other : Message) → only {E = Refusal} (Ok other) (Ok message) → StartsWithByte other.body → StartsWithByte message.body
 same_start message other is starts =
     let same : message ≡ other = cc in
     subst (λ (m : Message). StartsWithByte m.body) (sym same) starts

@@ -8,16 +8,18 @@ use Rattle.std.proofs.lemmas.Option.{get_or_from_slice_get, slice_get-get_or, sl
 use Rattle.bar_base.specs.declared.element.Element.{Element}
 use Rattle.bar_base.proofs.ListLemmas.{drop_here}
 use Rattle.input_escapes.proofs.Uniqueness.{only_bytes}
-use Rattle.zint_texts.specs.Steps.{Refuses, Step, Then, only}
-use Rattle.zint_texts.specs.declared.fault.Fault.{Fault}
-use Rattle.zint_texts.specs.declared.fault.Fault.TheVariants.{NoMemory, Unread, Unwritten, Refused}
-use Rattle.zint_texts.proofs.Steps.{refused_first, refused_later}
-use Rattle.zint_words.specs.Settings.{SegmentText, append_in, segment_in}
-use Rattle.zint_words.specs.declared.drawing_options.DrawingOptions.{DrawingOptions}
-use Rattle.zint_words.specs.declared.segment.Segment.{Segment}
-use Rattle.zint_words.specs.declared.set_place.SetPlace.{SetPlace}
+use Rattle.bar_base.specs.Steps.{Step, Then, only}
+use Rattle.zint_answers.specs.Steps.{Refuses}
+use Rattle.zint_answers.specs.declared.fault.Fault.{Fault}
+use Rattle.zint_answers.specs.declared.fault.Fault.TheVariants.{NoMemory, Unread, Unwritten, Refused}
+use Rattle.zint_answers.proofs.Steps.{refused_first, refused_later}
+use Rattle.zint_settings.specs.Settings.{SegmentText, append_in, segment_in}
+use Rattle.zint_settings.specs.declared.drawing_options.DrawingOptions.{DrawingOptions}
+use Rattle.zint_settings.specs.declared.segment.Segment.{Segment}
+use Rattle.zint_settings.specs.declared.set_place.SetPlace.{SetPlace}
 use Rattle.zint_draw.specs.Data.{data_of, not_empty}
 use Rattle.zint_draw.specs.Segments.{bytes_in_segments, fault_in, in_segment, segment_elements, segments_elements}
+use Rattle.zint_answers.specs.declared.refusal.Refusal.{Refusal}
 
 -- a segment of the settings, as one of a request
 pub segment_here : (segments : List Segment) (place : ℕ) (segment : Segment) → place < length segments → segment ≡ get_or segments place segment
@@ -54,7 +56,7 @@ room_left segments place room left most segment before here is =
     )
 
 -- a fault of a step is one of the step in a segment
-pub refuses_in : (number : ℕ) (step : Step (List Element)) (fault told : Fault) → told ≡ fault_in number fault → Refuses step fault
+pub refuses_in : (number : ℕ) (step : Step (List Element) Refusal) (fault told : Fault) → told ≡ fault_in number fault → Refuses step fault
     → Refuses (in_segment number step) told
 refuses_in number step NoMemory told is refused = subst (Refuses (in_segment number step)) (sym is) tt
 refuses_in number step Unread told is refused = absurd refused
@@ -110,7 +112,7 @@ behind options segments place number segment rest own more is is_own is_more =
     subst (λ (front : List SegmentText). segments_elements options number front (Ok (own ++ more))) (sym is) (own, is_own, (more, is_more, refl))
 
 -- what is behind the first of segments
-abbrev pub RestOf : DrawingOptions → (number : ℕ) → List SegmentText → (first : List Element) → Step (List Element)
+abbrev pub RestOf : DrawingOptions → (number : ℕ) → List SegmentText → (first : List Element) → Step (List Element) Refusal
 RestOf options number rest first = Then (segments_elements options number rest) (λ more. only (Ok (first ++ more)))
 
 refused_behind : (options : DrawingOptions) (segments : List SegmentText) (place number : ℕ) (segment : SegmentText) (rest : List SegmentText) (own : List Element)

@@ -12,16 +12,17 @@ use Rattle.eci_sets.specs.declared.fault.SetFault.TheVariants.{NoCharacter}
 use Rattle.gs1_check.specs.ElementStrings.{brackets_of, text_body}
 use Rattle.gs1_check.specs.declared.fault.Gs1Fault.{Gs1Fault}
 use Rattle.gs1_check.specs.declared.fault.Gs1Fault.TheVariants as gs1_variants
-use Rattle.zint_texts.specs.Steps.{Step, ◌>>=◌, answered, only}
-use Rattle.zint_texts.specs.declared.detail.Kind.TheVariants.{Text, Character, Bracket, Identifier, Length, Date}
-use Rattle.zint_texts.specs.declared.fault.Fault.{Fault}
-use Rattle.zint_texts.specs.declared.fault.Fault.TheVariants.{NoMemory, Refused}
-use Rattle.zint_texts.specs.declared.refusal.Refusal.{Refusal}
-use Rattle.zint_texts.specs.declared.refusal.Refusal.TheVariants.{BadCheck, BadData}
-use Rattle.zint_words.specs.Numbers.{is_character_set}
-use Rattle.zint_words.specs.declared.drawing_options.DrawingOptions.{DrawingOptions}
-use Rattle.zint_words.specs.declared.drawing_options.Gs1Brackets.{Gs1Brackets}
-use Rattle.zint_words.specs.declared.drawing_options.Gs1Brackets.TheVariants.{Round, Square}
+use Rattle.bar_base.specs.Steps.{Step, ◌>>=◌, only}
+use Rattle.zint_answers.specs.Steps.{answered}
+use Rattle.zint_answers.specs.declared.detail.Kind.TheVariants.{Text, Character, Bracket, Identifier, Length, Date}
+use Rattle.zint_answers.specs.declared.fault.Fault.{Fault}
+use Rattle.zint_answers.specs.declared.fault.Fault.TheVariants.{NoMemory, Refused}
+use Rattle.zint_answers.specs.declared.refusal.Refusal.{Refusal}
+use Rattle.zint_answers.specs.declared.refusal.Refusal.TheVariants.{BadCheck, BadData}
+use Rattle.zint_settings.specs.CharacterSets.{is_character_set}
+use Rattle.zint_settings.specs.declared.drawing_options.DrawingOptions.{DrawingOptions}
+use Rattle.zint_settings.specs.declared.drawing_options.Gs1Brackets.{Gs1Brackets}
+use Rattle.zint_settings.specs.declared.drawing_options.Gs1Brackets.TheVariants.{Round, Square}
 use Rattle.zint_draw.specs.declared.message.DataKind.{DataKind}
 use Rattle.zint_draw.specs.declared.message.DataKind.TheVariants as kind
 
@@ -72,7 +73,7 @@ gs1_fault (gs1_variants.BadDate place) = Refused (BadData Date place)
 gs1_fault (gs1_variants.BadCheck place given wanted) = Refused (BadCheck given place wanted)
 
 -- The message of GS1 element strings: FNC1, and their body.
-unfoldable pub gs1_message : (parens : Bool) (bytes : List ℕ) → Step Message
+unfoldable pub gs1_message : (parens : Bool) (bytes : List ℕ) → Step Message Refusal
 gs1_message parens bytes = do
   body ← answered gs1_fault (text_body (brackets_of parens) bytes)
   only (Ok (message_with true None body))
@@ -96,27 +97,27 @@ written_eci (Some eci) text = Some eci
 written_eci None text = unless_three (chosen_eci (chars text))
 
 -- The bytes of a text in the set of a number, or the place of the first character that the set lacks.
-abbrev pub encoded_in : (eci : ℕ) → (text : List ℕ) → Step (List ℕ)
+abbrev pub encoded_in : (eci : ℕ) → (text : List ℕ) → Step (List ℕ) Refusal
 encoded_in eci text (Ok bytes) = text_encoding (set_numbered eci) (chars text) ≡ Ok bytes
 encoded_in eci text (Err refusal) = (place : ℕ)
     × (text_encoding (set_numbered eci) (chars text) ≡ Err (NoCharacter place)) × (refusal ≡ BadData Character place)
 
 -- The message of text: its bytes in the set.
-unfoldable pub text_message : (eci : Option ℕ) (bytes : List ℕ) → Step Message
+unfoldable pub text_message : (eci : Option ℕ) (bytes : List ℕ) → Step Message Refusal
 text_message eci bytes = do
   text ← only (whole_text bytes)
   encoded ← encoded_in (set_for eci text) text
   only (Ok (message_with false (written_eci eci text) (bytes_as_elements encoded)))
 
 -- The message of text in ISO/IEC 8859-1, whose ECI is not written.
-unfoldable pub latin1_message : (bytes : List ℕ) → Step Message
+unfoldable pub latin1_message : (bytes : List ℕ) → Step Message Refusal
 latin1_message bytes = do
   text ← only (whole_text bytes)
   encoded ← encoded_in 3 text
   only (Ok (message_with false None (bytes_as_elements encoded)))
 
 -- The message of data.
-unfoldable pub message_for : DataKind → (bytes : List ℕ) → Step Message
+unfoldable pub message_for : DataKind → (bytes : List ℕ) → Step Message Refusal
 message_for (kind.Gs1 parens) bytes answer = gs1_message parens bytes answer
 message_for (kind.Bytes eci) bytes answer = only (Ok (message_with false eci (bytes_as_elements bytes))) answer
 message_for (kind.Text eci) bytes answer = text_message eci bytes answer

@@ -6,14 +6,14 @@ use Rattle.bar_base.specs.declared.element.Element.{Element}
 use Rattle.bar_base.specs.declared.message.Append.{Append}
 use Rattle.bar_base.specs.declared.message.Message.{Message}
 use Rattle.aztec_modes.specs.Message.{message_elements}
-use Rattle.zint_texts.specs.Steps.{Step, ◌>>=◌, only}
-use Rattle.zint_texts.specs.declared.detail.Unit.TheVariants.{Bytes}
-use Rattle.zint_texts.specs.declared.fault.Fault.{Fault}
-use Rattle.zint_texts.specs.declared.fault.Fault.TheVariants.{Refused}
-use Rattle.zint_texts.specs.declared.refusal.Refusal.{Refusal}
-use Rattle.zint_texts.specs.declared.refusal.Refusal.TheVariants.{BadData, BadSegment, TooLong}
-use Rattle.zint_words.specs.Settings.{DrawingRequest, SegmentText}
-use Rattle.zint_words.specs.declared.drawing_options.DrawingOptions.{DrawingOptions}
+use Rattle.bar_base.specs.Steps.{Step, ◌>>=◌, only}
+use Rattle.zint_answers.specs.declared.detail.Unit.TheVariants.{Bytes}
+use Rattle.zint_answers.specs.declared.fault.Fault.{Fault}
+use Rattle.zint_answers.specs.declared.fault.Fault.TheVariants.{Refused}
+use Rattle.zint_answers.specs.declared.refusal.Refusal.{Refusal}
+use Rattle.zint_answers.specs.declared.refusal.Refusal.TheVariants.{BadData, BadSegment, TooLong}
+use Rattle.zint_settings.specs.Settings.{DrawingRequest, SegmentText}
+use Rattle.zint_settings.specs.declared.drawing_options.DrawingOptions.{DrawingOptions}
 use Rattle.zint_draw.specs.Data.{data_of, not_empty}
 use Rattle.zint_draw.specs.Message.{data_kind, message_for}
 use Rattle.zint_draw.specs.declared.message.DataKind.{DataKind}
@@ -39,7 +39,7 @@ fault_in number (Refused refusal) = Refused (told_of number refusal)
 fault_in number fault = fault
 
 -- A step with the data of a segment, whose refusals tell its number.
-abbrev pub in_segment : {A : Type 0} → (number : ℕ) → Step A → Step A
+abbrev pub in_segment : {A : Type 0} → (number : ℕ) → Step A Refusal → Step A Refusal
 in_segment number step (Ok value) = step (Ok value)
 in_segment number step (Err refusal) = (own : Refusal) × step (Err own) × (refusal ≡ told_of number own)
 
@@ -48,7 +48,7 @@ abbrev pub segment_kind : (binary : Bool) → (eci : ℕ) → DataKind
 segment_kind binary eci = if binary then kind.Bytes (Some eci) else kind.Text (Some eci)
 
 -- The elements of a segment: those of a message of its data, which are its ECI and then its bytes.
-unfoldable pub segment_elements : DrawingOptions → SegmentText → Step (List Element)
+unfoldable pub segment_elements : DrawingOptions → SegmentText → Step (List Element) Refusal
 segment_elements options segment = do
   bytes ← data_of options.escapes segment.text
   some ← only (not_empty bytes)
@@ -56,7 +56,7 @@ segment_elements options segment = do
   only (Ok (message_elements message))
 
 -- The elements of segments, joined in their order; the first one has the number.
-unfoldable pub segments_elements : DrawingOptions → (number : ℕ) → List SegmentText → Step (List Element)
+unfoldable pub segments_elements : DrawingOptions → (number : ℕ) → List SegmentText → Step (List Element) Refusal
 segments_elements options number [] = only (Ok [])
 segments_elements options number (segment ∷ segments) = do
   first ← in_segment number (segment_elements options segment)
@@ -68,7 +68,7 @@ abbrev pub continued : Message → Option Append → (more : List Element) → M
 continued message append more = record message { append = append; body = message.body ++ more }
 
 -- The message of data and of the segments behind it.
-unfoldable pub message_of : DrawingRequest → (bytes : List ℕ) → Step Message
+unfoldable pub message_of : DrawingRequest → (bytes : List ℕ) → Step Message Refusal
 message_of request bytes = do
   plain ← message_for (data_kind request.options) bytes
   more ← segments_elements request.options 1 request.segments

@@ -9,10 +9,10 @@ pub mod Linear
 pub mod Rune
 use Rattle.std.specs.Prelude.{ℕ, List}
 use Rattle.bar_base.specs.Picture.{Picture}
-use Rattle.zint_texts.specs.Steps.{Step}
-use Rattle.zint_words.specs.Settings.{DrawingRequest}
-use Rattle.zint_words.specs.declared.symbology.Symbology.{Symbology}
-use Rattle.zint_words.specs.declared.symbology.Symbology.TheVariants as symbology
+use Rattle.bar_base.specs.Steps.{Step}
+use Rattle.zint_settings.specs.Settings.{DrawingRequest}
+use Rattle.zint_settings.specs.declared.symbology.Symbology.{Symbology}
+use Rattle.zint_settings.specs.declared.symbology.Symbology.TheVariants as symbology
 use Rattle.zint_draw.specs.declared.symbologies.Symbol.{Symbol}
 use Rattle.zint_draw.specs.declared.symbologies.Symbol.TheVariants as symbol
 use Rattle.zint_draw.specs.symbologies.Aztec as aztec
@@ -23,9 +23,10 @@ use Rattle.zint_draw.specs.symbologies.FourState as four_state
 use Rattle.zint_draw.specs.symbologies.Itf14 as itf14
 use Rattle.zint_draw.specs.symbologies.Linear.{linear_head, row_of_height}
 use Rattle.zint_draw.specs.symbologies.Rune as rune
+use Rattle.zint_answers.specs.declared.refusal.Refusal.{Refusal}
 
 -- the symbol of data, in a symbology; only Aztec takes a structured append set and segments
-abbrev pub draws_in : Symbology → DrawingRequest → (bytes : List ℕ) → Step Symbol
+abbrev pub draws_in : Symbology → DrawingRequest → (bytes : List ℕ) → Step Symbol Refusal
 draws_in symbology.Aztec request bytes answer = aztec.draws_aztec request bytes answer
 draws_in symbology.AztecRune request bytes answer = rune.draws_rune bytes answer
 draws_in symbology.Code39 request bytes answer = code39.draws39 request.options bytes answer
@@ -37,7 +38,7 @@ draws_in symbology.Code128 request bytes answer = code128.draws128 request.optio
 draws_in symbology.Gs1Code128 request bytes answer = code128.draws128 request.options bytes answer
 
 -- the symbol of data, in the symbology that is asked for
-unfoldable pub draws_as : DrawingRequest → (bytes : List ℕ) → Step Symbol
+unfoldable pub draws_as : DrawingRequest → (bytes : List ℕ) → Step Symbol Refusal
 draws_as request bytes = draws_in request.options.symbology request bytes
 
 -- the modules; the row of a linear symbol has the height that is asked for, every other row its own

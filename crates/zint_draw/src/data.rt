@@ -1,11 +1,12 @@
 //! From the content of a message to its data.
 ghost use Rattle.std.specs.Prelude.{◌≡◌, ◌<◌, IfOk, length};
-ghost use Rattle.zint_texts.specs.Steps.{MayAnswer, only};
+ghost use Rattle.bar_base.specs.Steps.{only};
+ghost use Rattle.zint_answers.specs.Steps.{MayAnswer};
 ghost use Rattle.zint_draw.specs.Data.{data_of, not_empty, unescaped};
 
 use input_escapes::{EscapeFault, unescape};
 use std::alloc::Global;
-use zint_texts::{Fault, Kind, Refusal};
+use zint_answers::{Fault, Kind, Refusal};
 
 /// The data: with escapes what they stand for, and else the content itself.
 #[tactic(auto, unfolding(crate::specs::Data::data_of))]

@@ -1,7 +1,7 @@
 //! A drawing, step by step.
 ghost use Rattle.std.specs.Prelude.{◌≡◌, IfOk};
-ghost use Rattle.zint_texts.specs.Steps.{MayAnswer};
-ghost use Rattle.zint_words.specs.Settings.{drawing_in};
+ghost use Rattle.zint_answers.specs.Steps.{MayAnswer};
+ghost use Rattle.zint_settings.specs.Settings.{drawing_in};
 ghost use Rattle.zint_draw.specs.Drawing.{draws};
 ghost use Rattle.zint_draw.specs.Height.{IsLowSymbol};
 
@@ -9,8 +9,8 @@ use crate::data::{data_of, not_empty};
 use crate::segments::within_bytes;
 use crate::symbologies::{Symbol, draw_as};
 use std::alloc::Global;
-use zint_texts::Fault;
-use zint_words::DrawingSettings;
+use zint_answers::Fault;
+use zint_settings::DrawingSettings;
 
 /// The symbol that the settings ask for, of a content and the segments behind it, or the first refusal of them: by their bytes, of which
 /// there are at most 65,536 together, by the data, which is empty or has a backslash that begins no escape, and then by the symbology.
@@ -22,7 +22,7 @@ pub fn draw(alloc: Global, settings: &DrawingSettings<'_>, raw: Vec<u8>) -> Resu
 }
 
 /// The steps of a drawing.
-#[tactic(auto, using(zint_texts::proofs::Steps::stepping), unfolding(crate::specs::Drawing::draws))]
+#[tactic(auto, using(zint_answers::proofs::Steps::stepping), unfolding(crate::specs::Drawing::draws))]
 fn drawn(alloc: Global, settings: &DrawingSettings<'_>, raw: Vec<u8>) -> Result<Symbol, Fault>
     ensures { MayAnswer (λ symbol. symbol) result (draws (drawing_in settings.now) raw.items) }
 {

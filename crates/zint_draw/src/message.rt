@@ -4,16 +4,17 @@ ghost use Rattle.aztec_modes.specs.Entry.{bytes_as_elements};
 ghost use Rattle.aztec_modes.specs.Message.{message_elements};
 ghost use Rattle.code128_best.specs.Spelling.{IsCode128Element};
 ghost use Rattle.gs1_check.specs.ElementStrings.{brackets_of, text_body};
-ghost use Rattle.zint_texts.specs.Steps.{MayAnswer, answered, only};
-ghost use Rattle.zint_words.specs.Numbers.{is_character_set};
+ghost use Rattle.bar_base.specs.Steps.{only};
+ghost use Rattle.zint_answers.specs.Steps.{MayAnswer, answered};
+ghost use Rattle.zint_settings.specs.CharacterSets.{is_character_set};
 ghost use Rattle.zint_draw.specs.Message.{CanBeDrawn, IsDataKind, IsKnownEci, WritesNoEci, data_kind, encoded_in, gs1_fault, gs1_message, latin1_message, message_for, message_with, set_for, text_message, whole_text, written_eci};
 
 use bar_base::{Element, Elements, Message, NoMemory};
 use eci_sets::{SetFault, choose, encode};
 use gs1_check::{Gs1Fault, parse};
 use std::alloc::Global;
-use zint_texts::{Fault, Kind, Refusal};
-use zint_words::{DrawingSettings, Gs1Brackets};
+use zint_answers::{Fault, Kind, Refusal};
+use zint_settings::{DrawingSettings, Gs1Brackets};
 
 /// What the data of a message is.
 #[derive(Clone, Copy, Debug)]
@@ -82,7 +83,7 @@ fn message_with(gs1: bool, eci: Option<u32>, body: Elements) -> Message
 }
 
 /// The message of GS1 element strings.
-#[tactic(auto, using(zint_texts::proofs::Steps::stepping, crate::proofs::Messages::gs1_drawable, crate::proofs::Messages::plain), unfolding(crate::specs::Message::gs1_message))]
+#[tactic(auto, using(zint_answers::proofs::Steps::stepping, crate::proofs::Messages::gs1_drawable, crate::proofs::Messages::plain), unfolding(crate::specs::Message::gs1_message))]
 fn gs1_message(alloc: Global, parens: bool, bytes: &[u8]) -> Result<Message, Fault>
     ensures given { MayAnswer (λ message. message) result (gs1_message parens bytes.now) }
     ensures can_be_drawn { IfOk result CanBeDrawn }
@@ -157,7 +158,7 @@ fn elements_of_bytes(alloc: Global, bytes: &[u8]) -> Result<Elements, NoMemory>
 }
 
 /// The message of text, in the set of the ECI that is named, or in the first one that has every character.
-#[tactic(auto, using(zint_texts::proofs::Steps::stepping), unfolding(crate::specs::Message::text_message))]
+#[tactic(auto, using(zint_answers::proofs::Steps::stepping), unfolding(crate::specs::Message::text_message))]
 fn text_message(alloc: Global, eci: Option<u32>, bytes: &[u8]) -> Result<Message, Fault>
     requires known { IsKnownEci eci }
     requires some { 0 < length bytes.now }
@@ -172,7 +173,7 @@ fn text_message(alloc: Global, eci: Option<u32>, bytes: &[u8]) -> Result<Message
 }
 
 /// The message of text in ISO/IEC 8859-1, whose ECI is not written.
-#[tactic(auto, using(zint_texts::proofs::Steps::stepping), unfolding(crate::specs::Message::latin1_message, zint_words::specs::Numbers::is_character_set))]
+#[tactic(auto, using(zint_answers::proofs::Steps::stepping), unfolding(crate::specs::Message::latin1_message, zint_settings::specs::CharacterSets::is_character_set))]
 fn latin1_message(alloc: Global, bytes: &[u8]) -> Result<Message, Fault>
     requires some { 0 < length bytes.now }
     ensures given { MayAnswer (λ message. message) result (latin1_message bytes.now) }

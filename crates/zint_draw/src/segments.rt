@@ -1,9 +1,10 @@
 //! Segments behind the data of a message, each in a character set of its own (ISO/IEC 24778, ECI), and the whole message.
 ghost use Rattle.std.specs.Prelude.{◌≡◌, ◌<◌, ◌≤◌, ◌++◌, IfOk, IfSome, OnOk, length, map, nat_le, true};
 ghost use Rattle.aztec_modes.specs.Message.{IsAppendPlace};
-ghost use Rattle.zint_texts.specs.Steps.{MayAnswer, only};
-ghost use Rattle.zint_words.specs.Numbers.{is_character_set};
-ghost use Rattle.zint_words.specs.Settings.{append_in, drawing_in, segment_in};
+ghost use Rattle.bar_base.specs.Steps.{only};
+ghost use Rattle.zint_answers.specs.Steps.{MayAnswer};
+ghost use Rattle.zint_settings.specs.CharacterSets.{is_character_set};
+ghost use Rattle.zint_settings.specs.Settings.{append_in, drawing_in, segment_in};
 ghost use Rattle.zint_draw.specs.Message.{CanBeDrawn, IsDataKind};
 ghost use Rattle.zint_draw.specs.Segments.{bytes_in_segments, continued, fault_in, in_segment, message_of, segment_elements, segment_kind, segments_elements, within_bytes};
 
@@ -12,8 +13,8 @@ use crate::message::{DataKind, data_kind, message_for};
 use aztec_modes::elements_of;
 use bar_base::{Append, Elements, Ident, MOST_BYTES, Message, NoMemory};
 use std::alloc::Global;
-use zint_texts::{Fault, Refusal, Unit};
-use zint_words::{DrawingOptions, DrawingSettings, Segment, SetPlace};
+use zint_answers::{Fault, Refusal, Unit};
+use zint_settings::{DrawingOptions, DrawingSettings, Segment, SetPlace};
 
 /// The content, which has at most 65,536 bytes together with the segments behind it.
 pub fn within_bytes(settings: &DrawingSettings<'_>, raw: Vec<u8>) -> Result<Vec<u8>, Fault>
@@ -47,7 +48,7 @@ fn are_within(segments: &[Segment<'_>], most: usize) -> bool
 /// The message of data that is not empty, and of the segments behind it, each of which is numbered from 1. The refusals are those of the
 /// data, and then of each segment in order: it is empty, has a backslash that begins no escape or a byte that begins no whole character of
 /// UTF-8, or its set lacks a character.
-#[tactic(auto, using(zint_texts::proofs::Steps::stepping), unfolding(crate::specs::Segments::message_of))]
+#[tactic(auto, using(zint_answers::proofs::Steps::stepping), unfolding(crate::specs::Segments::message_of))]
 pub fn message_of(
     alloc: Global,
     settings: &DrawingSettings<'_>,
@@ -172,7 +173,7 @@ fn in_segment(number: u32, fault: Fault) -> Fault
 }
 
 /// The elements of a segment: its ECI, and its bytes in the character set of that.
-#[tactic(auto, using(zint_texts::proofs::Steps::stepping), unfolding(crate::specs::Segments::segment_elements))]
+#[tactic(auto, using(zint_answers::proofs::Steps::stepping), unfolding(crate::specs::Segments::segment_elements))]
 fn segment_elements(
     alloc: Global,
     options: DrawingOptions,

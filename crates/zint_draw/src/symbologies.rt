@@ -9,8 +9,8 @@ pub mod rm4scc;
 pub mod rune;
 
 ghost use Rattle.std.specs.Prelude.{◌≡◌, ◌<◌, ◌≤◌, IfOk, length};
-ghost use Rattle.zint_texts.specs.Steps.{MayAnswer};
-ghost use Rattle.zint_words.specs.Settings.{drawing_in};
+ghost use Rattle.zint_answers.specs.Steps.{MayAnswer};
+ghost use Rattle.zint_settings.specs.Settings.{drawing_in};
 ghost use Rattle.zint_draw.specs.Segments.{bytes_in_segments};
 ghost use Rattle.zint_draw.specs.symbologies.{draws_as, grid_of, head_of};
 
@@ -20,8 +20,8 @@ use crate::symbologies::rune::RuneSymbol;
 use aztec_draw::AztecSymbol;
 use bar_base::{Grid, Linear, MOST_BYTES, NoMemory};
 use std::alloc::Global;
-use zint_texts::Fault;
-use zint_words::{DrawingSettings, Symbology};
+use zint_answers::Fault;
+use zint_settings::{DrawingSettings, Symbology};
 
 /// What is drawn, by the symbology.
 #[derive(Debug, Drop)]

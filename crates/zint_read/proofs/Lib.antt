@@ -1,8 +1,15 @@
-pub mod Back
 pub mod BodyTexts
+pub mod Cuts
+pub mod CutsOnce
+pub mod FrameLaws
+pub mod ImagesOnce
 pub mod Limits
-pub mod OneFault
 pub mod OneMessage
 pub mod OnePicture
 pub mod OneReport
+pub mod ReaderLaws
 pub mod Refusals
+pub mod RowRefusals
+pub mod Seeing
+pub mod Unknowns
+pub mod Written

@@ -1,5 +1,5 @@
 -- The four lines of a message tell it.
-use Rattle.std.proofs.Common.{◌≡◌, ℕ, ◌+◌, ◌-◌, ◌*◌, ◌/◌, ◌%◌, ◌<◌, ◌≤◌, ◌^◌, ◌==◌, ◌&&◌, List, [], ◌∷◌, ◌++◌, Bool, true, false, All, IfSome, Option, Some, None, length, drop, get_or, nat_le, nat_lt, decimal, codes, if◌then◌else◌, refl, ap, sym, subst, arith, ◌∙◌, ◌⊎◌, inl, inr}
+use Rattle.std.proofs.Common.{◌≡◌, ℕ, ◌+◌, ◌-◌, ◌*◌, ◌/◌, ◌%◌, ◌<◌, ◌≤◌, ◌^◌, ◌==◌, ◌&&◌, List, [], ◌∷◌, ◌++◌, Bool, true, false, All, IfSome, Option, Some, None, length, get_or, nat_le, nat_lt, decimal, codes, if◌then◌else◌, refl, ap, sym, subst, arith, ◌∙◌, ◌⊎◌, inl, inr}
 use Rattle.std.specs.List.{flat_map}
 use Rattle.std.specs.Char.{digit_value}
 use Rattle.std.specs.Str.Parse.{AllDigits}
@@ -17,7 +17,7 @@ use Rattle.input_escapes.specs.Escapes.{escaped, hexadecimal}
 use Rattle.input_escapes.specs.Texts.{StandsFor}
 use Rattle.input_escapes.proofs.Undoing.{escaped_piece, written_stands}
 use Rattle.input_escapes.proofs.Uniqueness.{only_bytes}
-use Rattle.zint_read.specs.ReadReport.{HasSameLines, HoldsNumbers, append_line, append_text, body_text, body_line, digit_for, eci_line, eci_text, element_text, escaped_bytes, fnc1_line, fnc1_text, identifier_text, place_text, six_digits}
+use Rattle.zint_read.specs.ReadReport.{HasSameLines, HoldsNumbers, append_line, append_text, body_text, body_line, digit_for, eci_line, eci_text, element_text, escaped_bytes, fnc1_line, identifier_text, place_text, six_digits}
 
 -- what stands between the same front and the same end
 between : (front x y back : List ℕ) → front ++ (x ++ back) ≡ front ++ (y ++ back) → x ≡ y

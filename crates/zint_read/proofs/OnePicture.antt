@@ -3,7 +3,7 @@ use Rattle.std.proofs.Common.{◌≡◌, ◌⊎◌, ℕ, ◌+◌, ◌<◌, ◌�
 use Rattle.std.proofs.lemmas.Bool.{cases_lt, cases_order}
 use Rattle.std.proofs.lemmas.List.{take-append-drop, take-take}
 use Rattle.bar_base.specs.GridText.{module_text}
-use Rattle.symbol_reader.specs.GridLines.{AreLines, IsBadText, IsGridText, IsLineEnd, IsTextFault, IsTooLarge, feed, return_feed, no_line, last_line, line}
+use Rattle.symbol_reader.specs.GridLines.{AreLines, IsBadText, IsGridText, IsLineEnd, IsTextFault, IsTextFaultFor, IsTooLargeFor, feed, return_feed, no_line, last_line, line}
 use Rattle.symbol_reader.specs.declared.text_fault.TextFault.{TextFault}
 use Rattle.symbol_reader.specs.declared.text_fault.TextFault.TheVariants.{NoMemory, BadText, BadSide}
 
@@ -87,8 +87,8 @@ first_long some (last_line long) = long
 first_long some (line long ends more) = long
 
 -- A text that is too large is so with one width and one number of rows.
-sides_once : (bytes : List ℕ) (width width' count count' : ℕ) → IsTooLarge bytes width count → IsTooLarge bytes width' count' → (width ≡ width') × (count ≡ count')
-sides_once bytes width width' count count' p q =
+sides_once : (most_wide most_rows : ℕ) (bytes : List ℕ) (width width' count count' : ℕ) → IsTooLargeFor most_wide most_rows bytes width count → IsTooLargeFor most_wide most_rows bytes width' count' → (width ≡ width') × (count ≡ count')
+sides_once most_wide most_rows bytes width width' count count' p q =
     let rows : p.sides.rows ≡ q.sides.rows = rows_once p.sides.text.wide q.sides.text.wide p.sides.text.lines q.sides.text.lines refl in (
       sym (first_long p.sides.text.some p.sides.text.lines) ∙ ap (λ (rs : List (List Bool)). length (first_row rs)) rows ∙ first_long q.sides.text.some q.sides.text.lines,
       sym p.sides.counted ∙ ap length rows ∙ q.sides.counted,
@@ -113,8 +113,8 @@ place_once bytes place place' p q = by_order (cases_order place place')
     by_order (inr (inl before)) = absurd (not_before bytes place place' p q before)
     by_order (inr (inr behind)) = absurd (not_before bytes place' place q p behind)
 
-not_too_large : (bytes : List ℕ) (place width count : ℕ) → IsBadText bytes place → IsTooLarge bytes width count → ⊥
-not_too_large bytes place width count bad large = by_place (cases_lt place (length bytes))
+not_too_large : (most_wide most_rows : ℕ) (bytes : List ℕ) (place width count : ℕ) → IsBadText bytes place → IsTooLargeFor most_wide most_rows bytes width count → ⊥
+not_too_large most_wide most_rows bytes place width count bad large = by_place (cases_lt place (length bytes))
   where
     text : IsGridText bytes
     text = (width, count, large.sides)
@@ -124,14 +124,19 @@ not_too_large bytes place width count bad large = by_place (cases_lt place (leng
     by_place (inr past) = bad.short (omega (arith, past, bad.within)) text
 
 -- Besides want of memory bytes have one fault.
+pub text_fault_for_once : (most_wide most_rows : ℕ) (bytes : List ℕ) (fault other : TextFault) → IsTextFaultFor most_wide most_rows bytes fault
+    → IsTextFaultFor most_wide most_rows bytes other → (fault ≡ NoMemory) ⊎ ((other ≡ NoMemory) ⊎ (fault ≡ other))
+text_fault_for_once w h bytes NoMemory other p q = inl refl
+text_fault_for_once w h bytes (BadText place) NoMemory p q = inr (inl refl)
+text_fault_for_once w h bytes (BadText place) (BadText place') p q = inr (inr (ap (λ (n : ℕ). BadText n) (place_once bytes place place' p q)))
+text_fault_for_once w h bytes (BadText place) (BadSide width count) p q = absurd (not_too_large w h bytes place width count p q)
+text_fault_for_once w h bytes (BadSide width count) NoMemory p q = inr (inl refl)
+text_fault_for_once w h bytes (BadSide width count) (BadText place) p q = absurd (not_too_large w h bytes place width count q p)
+text_fault_for_once w h bytes (BadSide width count) (BadSide width' count') p q =
+    let same = sides_once w h bytes width width' count count' p q in
+    inr (inr (ap (λ (n : ℕ). BadSide n count) same.0 ∙ ap (λ (n : ℕ). BadSide width' n) same.1))
+
+-- The same of a picture of at most 151 by 151 modules.
 pub text_fault_once : (bytes : List ℕ) (fault other : TextFault) → IsTextFault bytes fault → IsTextFault bytes other
     → (fault ≡ NoMemory) ⊎ ((other ≡ NoMemory) ⊎ (fault ≡ other))
-text_fault_once bytes NoMemory other p q = inl refl
-text_fault_once bytes (BadText place) NoMemory p q = inr (inl refl)
-text_fault_once bytes (BadText place) (BadText place') p q = inr (inr (ap (λ (n : ℕ). BadText n) (place_once bytes place place' p q)))
-text_fault_once bytes (BadText place) (BadSide width count) p q = absurd (not_too_large bytes place width count p q)
-text_fault_once bytes (BadSide width count) NoMemory p q = inr (inl refl)
-text_fault_once bytes (BadSide width count) (BadText place) p q = absurd (not_too_large bytes place width count q p)
-text_fault_once bytes (BadSide width count) (BadSide width' count') p q =
-    let same = sides_once bytes width width' count count' p q in
-    inr (inr (ap (λ (n : ℕ). BadSide n count) same.0 ∙ ap (λ (n : ℕ). BadSide width' n) same.1))
+text_fault_once bytes fault other p q = text_fault_for_once 151 151 bytes fault other p q

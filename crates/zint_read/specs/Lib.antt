@@ -1,2 +1,5 @@
+pub mod Images
 pub mod ReadReport
-pub mod ReadSteps
+pub mod Seen
+pub mod frames
+pub mod readers

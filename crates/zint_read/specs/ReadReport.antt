@@ -1,5 +1,5 @@
 -- The read report: what a reading says, line by line.
-use Rattle.std.specs.Prelude.{◌≡◌, ℕ, ◌+◌, ◌/◌, ◌%◌, ◌≤◌, ◌<◌, ◌^◌, Bool, List, [], ◌∷◌, ◌++◌, All, IfSome, Option, Some, None, option_map, MatchBool, MatchOption, codes, decimal, map, if◌then◌else◌}
+use Rattle.std.specs.Prelude.{◌≡◌, ℕ, ◌+◌, ◌/◌, ◌%◌, ◌<◌, ◌^◌, Bool, List, [], ◌∷◌, ◌++◌, All, IfSome, Option, Some, None, option_map, MatchBool, MatchOption, codes, decimal, if◌then◌else◌}
 use Rattle.std.specs.List.{flat_map}
 use Rattle.bar_base.specs.Elements.{IsElement}
 use Rattle.bar_base.specs.declared.element.Element.{Element}
@@ -10,8 +10,8 @@ use Rattle.aztec_layout.specs.declared.sizes.Size.{Size}
 use Rattle.eci_sets.specs.JoinedTexts.{IsJoinedText}
 use Rattle.gs1_check.specs.LeadingStrings.{HasNoText, IsOnlyText}
 use Rattle.input_escapes.specs.Escapes.{escaped, escaped_in_text}
-use Rattle.symbol_reader.specs.declared.reading.Reading.{Reading}
-use Rattle.zint_texts.specs.Report.{size_text}
+use Rattle.symbol_reader.specs.declared.reading.LostReading.{LostReading}
+use Rattle.zint_answers.specs.Report.{size_text}
 
 -- bytes as a text of ASCII characters
 abbrev pub escaped_bytes : List ℕ → List ℕ
@@ -92,9 +92,19 @@ codewords_line held check = codes "codewords=" ++ decimal held ++ codes "+" ++ d
 unfoldable pub corrected_line : ℕ → List ℕ
 corrected_line corrected = codes "corrected=" ++ decimal corrected ++ codes "\n"
 
--- the three lines that tell the symbol
-abbrev pub symbol_lines : Reading → List ℕ
-symbol_lines reading = size_line reading.size ++ codewords_line reading.held reading.check ++ corrected_line reading.corrected
+-- the line `lost=`: the codewords that were lost
+unfoldable pub lost_line : ℕ → List ℕ
+lost_line lost = codes "lost=" ++ decimal lost ++ codes "\n"
+
+-- the same line, where it is to be told
+abbrev pub lost_lines : (tells_lost : Bool) → ℕ → List ℕ
+lost_lines tells_lost lost = if tells_lost then lost_line lost else []
+
+-- the lines that tell the symbol
+abbrev pub symbol_lines : (tells_lost : Bool) → LostReading → List ℕ
+symbol_lines tells_lost read =
+    ((size_line read.reading.size ++ codewords_line read.reading.held read.reading.check) ++ corrected_line read.reading.corrected)
+    ++ lost_lines tells_lost read.lost
 
 -- What stands behind `gs1=`: in GS1 data the text of the element strings in square brackets, where there is one (GS1 General Specifications).
 abbrev pub IsGs1Text : Message → Option (List ℕ) → Type 0
@@ -123,13 +133,17 @@ gs1_line shown = line_where (codes "gs1=") shown
 abbrev pub text_line : Option (List ℕ) → List ℕ
 text_line shown = line_where (codes "text=") (option_map (λ text. flat_map escaped_in_text text) shown)
 
--- The read report of a reading.
-pub record IsReportOf (reading : Reading) (report : List ℕ) : Type 0 where
+-- The lines of a message and of its texts, behind some others.
+pub record IsToldBehind (front : List ℕ) (message : Message) (report : List ℕ) : Type 0 where
   pub gs1 : Option (List ℕ)
-  pub shown : IsGs1Text reading.message gs1
+  pub shown : IsGs1Text message gs1
   pub text : Option (List ℕ)
-  pub decoded : IsDecoded reading.message text
-  pub lines : report ≡ ((symbol_lines reading ++ message_lines reading.message) ++ gs1_line gs1) ++ text_line text
+  pub decoded : IsDecoded message text
+  pub lines : report ≡ ((front ++ message_lines message) ++ gs1_line gs1) ++ text_line text
+
+-- The read report of a reading.
+abbrev pub IsReportOf : (tells_lost : Bool) (read : LostReading) (report : List ℕ) → Type 0
+IsReportOf tells_lost read report = IsToldBehind (symbol_lines tells_lost read) read.reading.message report
 
 -- The numbers of a message are such as its type holds: bytes below 256, an ECI below 2 to the 32.
 pub record HoldsNumbers (message : Message) : Type 0 where

@@ -8,7 +8,7 @@ use eci_sets::text_of;
 use gs1_check::show;
 use input_escapes::escape_text;
 use std::alloc::Global;
-use zint_texts::put_text;
+use zint_answers::put_text;
 
 /// In GS1 data the text of the element strings, where there is one.
 pub(crate) fn gs1_text(alloc: Global, message: &Message) -> Result<Option<Vec<u8>>, NoMemory>

@@ -1,12 +1,16 @@
-//! From the bytes of a picture, a text or a BMP, to the read report of its symbol, or to the first refusal.
+//! From the bytes of an image, a text or a BMP, to the read report of the symbol in it, or to the first refusal.
 #![tactic(auto)]
 
 mod body_lines;
+mod frames;
+mod images;
 mod message_lines;
-mod picture;
+mod readers;
 mod reading;
 mod report;
+mod seen;
 #[cfg(test)]
 mod tests;
 
+pub use readers::picture_limit;
 pub use reading::read_report;

@@ -5,7 +5,7 @@ ghost use Rattle.zint_read.specs.ReadReport.{append_line, append_text, body_text
 use bar_base::{Append, Element, Elements, Ident, Message, NoMemory};
 use input_escapes::escape;
 use std::alloc::Global;
-use zint_texts::{put_number, put_text};
+use zint_answers::{put_number, put_text};
 
 /// Puts the four lines of a message at the end of `report`.
 pub(crate) fn put_message_lines(
@@ -113,7 +113,7 @@ fn put_eci(report: &mut Vec<u8>, eci: Option<u32>) -> Result<(), NoMemory>
 
 /// Puts the line of the body at the end of `report`.
 #[tactic(auto, unfolding(crate::specs::ReadReport::body_line))]
-fn put_data_line(alloc: Global, report: &mut Vec<u8>, body: &Elements) -> Result<(), NoMemory>
+pub(crate) fn put_data_line(alloc: Global, report: &mut Vec<u8>, body: &Elements) -> Result<(), NoMemory>
     ensures { OnOk result (report.new.items ≡ report.old.items ++ body_line body.now) }
 {
     put_text(report, b"data=")?;

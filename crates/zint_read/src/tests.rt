@@ -1,11 +1,14 @@
 //! Reports and refusals of pictures that other programs drew, and of bytes by hand.
 
+ghost use Rattle.zint_settings.specs.Looks.{IsFrame};
+
 use crate::read_report;
 use bar_base::Paint;
 use std::alloc::Global;
 use std::process::Abort;
 use std::test::Fail;
-use zint_texts::{Fault, ImageFault, Refusal};
+use zint_settings::{Frame, Look};
+use zint_answers::{Fault, ImageFault, Refusal};
 
 // The symbol that says `Code 2D!`, compact with one layer, with the modules (0,1), (0,4) and (0,7) turned, each by column and row.
 const DAMAGED: &[u8] = b"000110001100000
@@ -112,7 +115,7 @@ const PLAIN: Paint = Paint {
 #[tactic(auto, using(crate::proofs::Limits::few_within))]
 fn answer<R: Abort>(rt: &R, alloc: Global, bytes: &[u8]) -> Result<Vec<u8>, Fault> {
     assert!(rt; bytes.len() <= 65536);
-    read_report(alloc, bytes, PLAIN)
+    read_report(alloc, Look::Aztec(Frame::Whole(PLAIN)), bytes)
 }
 
 // Whether bytes give this report.
@@ -199,5 +202,39 @@ fn tells_a_bmp_by_its_first_two_bytes(rt: HostRuntime) -> Result<(), Fail> {
             Err(Fault::Refused(Refusal::BadImage(ImageFault::Side(2, 2))))
         )
     );
+    Ok(())
+}
+
+// What is seen of few bytes in another frame.
+#[tactic(auto, using(crate::proofs::Limits::few_within))]
+fn seen_in<R: Abort>(rt: &R, alloc: Global, frame: Frame, bytes: &[u8]) -> Result<Vec<u8>, Fault>
+    requires { IsFrame frame }
+{
+    assert!(rt; bytes.len() <= 65536);
+    read_report(alloc, Look::Aztec(frame), bytes)
+}
+
+#[test]
+fn finds_in_a_bmp_alone(rt: HostRuntime) -> Result<(), Fail> {
+    assert!(rt;
+        matches!(
+            &seen_in(&rt, rt.alloc(), Frame::Anywhere, DAMAGED),
+            Err(Fault::Refused(Refusal::BadImage(ImageFault::Grid(0))))
+        )
+    );
+    assert!(rt;
+        matches!(
+            &seen_in(&rt, rt.alloc(), Frame::Anywhere, b"BM"),
+            Err(Fault::Refused(Refusal::BadImage(ImageFault::Truncated(2))))
+        )
+    );
+    Ok(())
+}
+
+#[test]
+fn tells_what_was_lost(rt: HostRuntime) -> Result<(), Fail> {
+    let report = seen_in(&rt, rt.alloc(), Frame::Unknown(PLAIN), DAMAGED)
+        .map_err(|_| "refused")?;
+    assert!(rt; report.as_slice().starts_with(b"size=compact 1\ncodewords=10+7\ncorrected=3\nlost=0\n"));
     Ok(())
 }

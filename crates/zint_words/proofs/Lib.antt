@@ -1,7 +1,6 @@
 pub mod Building
 pub mod CommaValues
 pub mod Finding
-pub mod Known
 pub mod Matching
 pub mod Numbers
 pub mod Outcomes

@@ -6,7 +6,8 @@ use Rattle.zint_words.specs.CommandLine.{Values, is_refused, values_by}
 use Rattle.zint_words.specs.BrokenRule.{broken_text}
 use Rattle.zint_words.specs.Outcome.{IsRefusedBy, IsUnreadable, bad_option, outcome_by, outcome_of, settings, usage}
 use Rattle.zint_words.specs.Rules.{first_broken}
-use Rattle.zint_words.specs.Settings.{Request, request_by}
+use Rattle.zint_settings.specs.Settings.{Request}
+use Rattle.zint_words.specs.Settings.{request_by}
 use Rattle.zint_words.specs.declared.refusal.Refusal.{Refusal}
 use Rattle.zint_words.specs.declared.refusal.Refusal.TheVariants as refusal
 use Rattle.zint_words.specs.declared.rules.Rule.{Rule}

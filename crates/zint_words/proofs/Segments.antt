@@ -4,9 +4,10 @@ use Rattle.std.specs.List.{cons_option, filter_map}
 use Rattle.std.proofs.lemmas.List.{append-nil, map_push, take_more}
 use Rattle.std.proofs.lemmas.List.Elements.{filter_map-append}
 use Rattle.zint_words.specs.CommandLine.{Values}
-use Rattle.zint_words.specs.Settings.{segment_given, segment_in}
+use Rattle.zint_settings.specs.Settings.{segment_in}
+use Rattle.zint_words.specs.Settings.{segment_given}
 use Rattle.zint_words.specs.declared.options.OptionName.{OptionName}
-use Rattle.zint_words.specs.declared.segment.Segment.{Segment}
+use Rattle.zint_settings.specs.declared.segment.Segment.{Segment}
 
 -- what one item more of the list gives
 pub one_more : {X Y : Type 0} (h : X → Option Y) (xs : List X) (i : ℕ) (d : X) → i < length xs

@@ -14,7 +14,7 @@ use Rattle.zint_words.specs.declared.options.OptionName.TheVariants.{Barcode}
 use Rattle.zint_words.specs.declared.options.Takes.{Takes}
 use Rattle.zint_words.specs.declared.options.Takes.TheVariants.{Flag}
 use Rattle.zint_words.specs.declared.options.TheConstants.{OPTIONS, OPTION_NAMES}
-use Rattle.zint_words.specs.declared.symbology.Symbology.{Symbology}
+use Rattle.zint_settings.specs.declared.symbology.Symbology.{Symbology}
 
 -- a row of the table: an option, its names, what it takes, and with which symbologies, data and other options it may be given
 pub record OptionRow : Type 0 where

@@ -1,26 +1,25 @@
 -- The options of a drawing, each as a function of the values that the options were given.
-use Rattle.std.specs.Prelude.{◌≡◌, ◌≤◌, ◌-◌, ℕ, Bool, true, false, not, if◌then◌else◌, Option, Some, None, option_map, is_some, option_and_then, unwrap_or, slice_index}
-use Rattle.std.specs.Option.{ForSome, option_map_or}
+use Rattle.std.specs.Prelude.{◌≤◌, ◌-◌, ℕ, Bool, true, false, not, if◌then◌else◌, Option, Some, None, option_map, is_some, option_and_then, unwrap_or, slice_index}
+use Rattle.std.specs.Option.{option_map_or}
 use Rattle.clap.specs.Words.{Text}
-use Rattle.bar_base.specs.Paint.{IsPaint}
 use Rattle.bar_base.specs.declared.paint.Paint.{Paint}
 use Rattle.zint_words.specs.CommandLine.{Values, taken_by}
-use Rattle.zint_words.specs.Forms.{form_by_ending, form_in}
-use Rattle.zint_words.specs.Numbers.{character_set_in, is_character_set, whole_number_in}
+use Rattle.zint_settings.specs.Forms.{form_by_ending, form_in}
+use Rattle.zint_words.specs.Numbers.{character_set_in, symbology_in, whole_number_in}
 use Rattle.zint_words.specs.Options.{suits}
-use Rattle.zint_words.specs.Symbologies.{greatest_version, symbology_in}
-use Rattle.zint_words.specs.declared.drawing_options.DrawingOptions.{DrawingOptions}
-use Rattle.zint_words.specs.declared.drawing_options.Gs1Brackets.{Gs1Brackets}
-use Rattle.zint_words.specs.declared.drawing_options.Gs1Brackets.TheVariants.{Square, Round}
+use Rattle.zint_settings.specs.Symbologies.{greatest_version}
+use Rattle.zint_settings.specs.declared.drawing_options.DrawingOptions.{DrawingOptions}
+use Rattle.zint_settings.specs.declared.drawing_options.Gs1Brackets.{Gs1Brackets}
+use Rattle.zint_settings.specs.declared.drawing_options.Gs1Brackets.TheVariants.{Square, Round}
 use Rattle.zint_words.specs.declared.drawing_options.TheConstants.{SHARES}
-use Rattle.zint_words.specs.declared.form.Form.{Form}
-use Rattle.zint_words.specs.declared.form.Form.TheVariants.{Grid}
+use Rattle.zint_settings.specs.declared.form.Form.{Form}
+use Rattle.zint_settings.specs.declared.form.Form.TheVariants.{Grid}
 use Rattle.zint_words.specs.declared.options.OptionName.{OptionName}
 use Rattle.zint_words.specs.declared.options.OptionName.TheVariants as option
 use Rattle.zint_words.specs.declared.options.Takes.{Takes}
 use Rattle.zint_words.specs.declared.options.Takes.TheVariants.{Number}
-use Rattle.zint_words.specs.declared.symbology.Symbology.{Symbology}
-use Rattle.zint_words.specs.declared.symbology.Symbology.TheVariants.{Code39, Code128, Gs1Code128}
+use Rattle.zint_settings.specs.declared.symbology.Symbology.{Symbology}
+use Rattle.zint_settings.specs.declared.symbology.Symbology.TheVariants.{Code128, Gs1Code128}
 
 -- the symbology that is named, and Code 128 where none is
 unfoldable pub symbology_of : Values → Symbology
@@ -101,20 +100,3 @@ drawing_options_of v = record {
   paint = paint_of v;
   height = given_number v option.Height 50;
 }
-
--- what the numbers among them may be
-pub record IsInRange (o : DrawingOptions) : Type 0 where
-  pub eci : ForSome o.eci (λ n. is_character_set n ≡ true)
-  pub share : o.share ≤ 50
-  pub version : ForSome o.version (λ v. (1 ≤ v) × (v ≤ 36))
-  pub paint : IsPaint o.paint
-  pub height : (1 ≤ o.height) × (o.height ≤ 200)
-
--- Code 39 has its check character, which the one version that it has asks for
-abbrev pub has_check_version : Symbology → (version : Option ℕ) → Bool
-has_check_version Code39 version = is_some version
-has_check_version _ version = false
-
--- the symbol has the check character of Code 39
-unfoldable pub check_character : DrawingOptions → Bool
-check_character o = has_check_version o.symbology o.version

@@ -2,7 +2,6 @@ pub mod BrokenRule
 pub mod CommandLine
 pub mod Commas
 pub mod DrawingOptions
-pub mod Forms
 pub mod GivenValues
 pub mod Numbers
 pub mod Options
@@ -10,4 +9,3 @@ pub mod Outcome
 pub mod Rules
 pub mod SetPlace
 pub mod Settings
-pub mod Symbologies

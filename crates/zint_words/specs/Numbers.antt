@@ -1,10 +1,14 @@
 -- Whole numbers as texts write them.
-use Rattle.std.specs.Prelude.{ℕ, Bool, ◌&&◌, ◌==◌, nat_lt, nat_le, length, Option, Some, None, if◌then◌else◌, option_and_then}
+use Rattle.std.specs.Prelude.{ℕ, Bool, ◌&&◌, nat_lt, nat_le, length, Option, Some, None, if◌then◌else◌, option_and_then}
 use Rattle.std.specs.Char.{is_ascii_digit}
-use Rattle.std.specs.List.{list_all, list_any}
+use Rattle.std.specs.List.{list_all}
 use Rattle.std.specs.Str.Parse.{digits_value}
 use Rattle.clap.specs.Words.{Text}
-use Rattle.zint_words.specs.declared.values.TheConstants.{CHARACTER_SETS}
+use Rattle.zint_settings.specs.CharacterSets.{is_character_set}
+use Rattle.zint_settings.specs.Symbologies.{symbology_numbered}
+use Rattle.zint_settings.specs.Looks.{row_symbology_numbered}
+use Rattle.zint_settings.specs.declared.look.RowSymbology.{RowSymbology}
+use Rattle.zint_settings.specs.declared.symbology.Symbology.{Symbology}
 
 -- 1 to 10 decimal digits
 abbrev pub is_whole_number : Text → Bool
@@ -22,10 +26,6 @@ kept_between low high n = if nat_le low n && nat_le n high then Some n else None
 unfoldable pub whole_number_in : ℕ → ℕ → Text → Option ℕ
 whole_number_in low high t = option_and_then (kept_between low high) (whole_number t)
 
--- the number is the ECI number of a character set that texts are encoded in
-unfoldable pub is_character_set : ℕ → Bool
-is_character_set n = list_any (λ set. set == n) CHARACTER_SETS
-
 -- the number, where it is the ECI number of a character set
 abbrev pub kept_character_set : ℕ → Option ℕ
 kept_character_set n = if is_character_set n then Some n else None
@@ -33,3 +33,11 @@ kept_character_set n = if is_character_set n then Some n else None
 -- the ECI number of a character set
 unfoldable pub character_set_in : Text → Option ℕ
 character_set_in t = option_and_then kept_character_set (whole_number_in 0 999999 t)
+
+-- the symbology whose number the text writes
+unfoldable pub symbology_in : Text → Option Symbology
+symbology_in t = option_and_then symbology_numbered (whole_number t)
+
+-- the symbology whose rows are read, and whose number the text writes
+unfoldable pub row_symbology_in : Text → Option RowSymbology
+row_symbology_in t = option_and_then row_symbology_numbered (whole_number t)

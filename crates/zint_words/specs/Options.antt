@@ -4,10 +4,10 @@ use Rattle.std.specs.List.{list_any}
 use Rattle.std.specs.Option.{option_map_or}
 use denote.Enum.Bare.{sameb}
 use Rattle.zint_words.specs.CommandLine.{option_row}
-use Rattle.zint_words.specs.Symbologies.{is_same_symbology}
+use Rattle.zint_settings.specs.Symbologies.{is_same_symbology}
 use Rattle.zint_words.specs.contracts.options.OptionName.{the_type}
 use Rattle.zint_words.specs.declared.options.OptionName.{OptionName}
-use Rattle.zint_words.specs.declared.symbology.Symbology.{Symbology}
+use Rattle.zint_settings.specs.declared.symbology.Symbology.{Symbology}
 
 -- the symbology is in the list
 abbrev pub has_symbology : List Symbology → Symbology → Bool

@@ -5,7 +5,8 @@ use Rattle.clap.specs.Words.{Text}
 use Rattle.zint_words.specs.CommandLine.{Values, is_refused, values_by}
 use Rattle.zint_words.specs.BrokenRule.{broken_text}
 use Rattle.zint_words.specs.Rules.{first_broken}
-use Rattle.zint_words.specs.Settings.{Request, request_by}
+use Rattle.zint_settings.specs.Settings.{Request}
+use Rattle.zint_words.specs.Settings.{request_by}
 use Rattle.zint_words.specs.declared.refusal.Refusal.{Refusal}
 use Rattle.zint_words.specs.declared.refusal.Refusal.TheVariants as refusal
 

@@ -3,13 +3,13 @@ use Rattle.std.specs.Prelude.{Bool, not, true, ◌&&◌, ◌||◌, List, ◌++�
 use Rattle.std.specs.Option.{option_map_or}
 use Rattle.clap.specs.Words.{Text}
 use Rattle.zint_words.specs.CommandLine.{Values, option_names, taken_by}
-use Rattle.zint_words.specs.Forms.{form_in, has_left_out_ending}
-use Rattle.zint_words.specs.Numbers.{character_set_in, whole_number_in}
+use Rattle.zint_settings.specs.Forms.{form_in, has_left_out_ending}
+use Rattle.zint_words.specs.Numbers.{character_set_in, row_symbology_in, whole_number_in, symbology_in}
 use Rattle.zint_words.specs.Options.{admits, is_for_gs1, suits}
 use Rattle.zint_words.specs.DrawingOptions.{gs1_source_of, symbology_of}
 use Rattle.zint_words.specs.SetPlace.{set_place_in}
 use Rattle.zint_words.specs.Settings.{segment_in_text}
-use Rattle.zint_words.specs.Symbologies.{greatest_version, symbology_in}
+use Rattle.zint_settings.specs.Symbologies.{greatest_version}
 use Rattle.zint_words.specs.declared.options.OptionName.{OptionName}
 use Rattle.zint_words.specs.declared.options.OptionName.TheVariants as option
 use Rattle.zint_words.specs.declared.options.Takes.{Takes}
@@ -23,6 +23,7 @@ unfoldable pub is_good_text : Values → Takes → Text → Bool
 is_good_text v takes.Flag t = true
 is_good_text v takes.Text t = true
 is_good_text v takes.SymbologyNumber t = is_some (symbology_in t)
+is_good_text v takes.RowSymbologyNumber t = is_some (row_symbology_in t)
 is_good_text v takes.FileName t = is_some (v option.Filetype) || not (has_left_out_ending t)
 is_good_text v takes.FormName t = is_some (form_in t)
 is_good_text v (takes.Number low high) t = is_some (whole_number_in low high t)
@@ -57,7 +58,8 @@ breaks v Message = not (is_some (v option.Data)) && not (is_some (v option.Input
 
 -- the rules in their order: the values of the options; the exclusions, which are options that are not given together and
 -- then options with a symbology or with data that they are not for; and what must not be missing, which is the segment
--- before one that is given and then an input. Data is GS1 data only with a symbology that carries it: so where `--gs1` is
+-- before one that is given, `--read` where `--erasures` or `--find` is, and an input; `--find` stands without what tells how a
+-- picture was painted and without `--erasures`. Data is GS1 data only with a symbology that carries it: so where `--gs1` is
 -- not for the symbology, nothing is excluded by GS1 data, and `--binary` may stand before `--gs1` in the table; and where
 -- segments are not for the symbology, the first that is given is named for that, and else the first for GS1 data.
 unfoldable pub all_rules : List Rule

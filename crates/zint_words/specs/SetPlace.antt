@@ -1,20 +1,11 @@
 -- The place of a symbol in a structured append set (ISO/IEC 24778, Structured append).
-use Rattle.std.specs.Prelude.{◌≤◌, ℕ, Bool, ◌&&◌, nat_lt, nat_le, All, [], length, Option, Some, None, if◌then◌else◌}
+use Rattle.std.specs.Prelude.{Bool, ◌&&◌, nat_lt, nat_le, [], length, Option, Some, None, if◌then◌else◌}
 use Rattle.std.specs.Char.{is_ascii_graphic}
 use Rattle.std.specs.List.{list_all}
 use Rattle.bar_base.specs.declared.message.Append.{Append}
 use Rattle.clap.specs.Words.{Text}
 use Rattle.zint_words.specs.Commas.{◌>>=◌, parts_at_comma}
 use Rattle.zint_words.specs.Numbers.{whole_number_in}
-
--- The index is 1 to the count, the count 2 to 26; the identifier has at most 32 bytes from 33 to 126.
-pub record IsSetPlace (index count : ℕ) (id : Text) : Type 0 where
-  pub from_one : 1 ≤ index
-  pub to_count : index ≤ count
-  pub some : 2 ≤ count
-  pub letters : count ≤ 26
-  pub few : length id ≤ 32
-  pub graphic : All (λ byte. (33 ≤ byte) × (byte ≤ 126)) id
 
 -- an identifier that is given has 1 to 32 bytes from 33 to 126
 abbrev pub is_identifier : Text → Bool

@@ -1,67 +1,27 @@
 -- What is asked for, as a function of the values that the options were given.
-use Rattle.std.specs.Prelude.{ℕ, List, map, Option, Some, option_and_then, option_map, unwrap_or, [], is_some, if◌then◌else◌}
+use Rattle.std.specs.Prelude.{List, Option, Some, option_and_then, [], is_some, ◌||◌, if◌then◌else◌}
 use Rattle.std.specs.List.{filter_map}
 use Rattle.std.specs.Option.{option_map_or}
 use Rattle.bar_base.specs.declared.message.Append.{Append}
-use Rattle.bar_base.specs.declared.paint.Paint.{Paint}
 use Rattle.clap.specs.Words.{Text}
+use Rattle.zint_settings.specs.Settings.{DrawingRequest, MessageOrigin, Request, SegmentText, Task, demonstration, drawing, from_input, from_text, reading}
+use Rattle.zint_settings.specs.declared.look.Frame.{Frame}
+use Rattle.zint_settings.specs.declared.look.Frame.TheVariants.{Anywhere, Unknown, Whole}
+use Rattle.zint_settings.specs.declared.look.Look.{Look}
+use Rattle.zint_settings.specs.declared.look.Look.TheVariants.{Aztec, Row}
+use Rattle.zint_settings.specs.declared.look.RowSymbology.{RowSymbology}
 use Rattle.zint_words.specs.CommandLine.{Values}
 use Rattle.zint_words.specs.Commas.{◌>>=◌, parts_at_comma}
 use Rattle.zint_words.specs.DrawingOptions.{drawing_options_of, given_number, paint_of}
-use Rattle.zint_words.specs.Numbers.{character_set_in}
+use Rattle.zint_words.specs.Numbers.{character_set_in, row_symbology_in}
 use Rattle.zint_words.specs.SetPlace.{set_place_in}
-use Rattle.zint_words.specs.declared.drawing_options.DrawingOptions.{DrawingOptions}
 use Rattle.zint_words.specs.declared.options.OptionName.{OptionName}
-use Rattle.zint_words.specs.declared.options.OptionName.TheVariants.{Data, Demo, Input, Output, Read, Structapp}
+use Rattle.zint_words.specs.declared.options.OptionName.TheVariants.{Data, Demo, Erasures, Find, Input, Output, Read, Scan, Structapp}
 use Rattle.zint_words.specs.declared.options.TheConstants.{SEGMENT_OPTIONS}
-use Rattle.zint_words.specs.declared.segment.Segment.{Segment}
-use Rattle.zint_words.specs.declared.set_place.SetPlace.{SetPlace}
-use Rattle.zint_words.specs.declared.settings.DemonstrationSettings.{DemonstrationSettings}
-use Rattle.zint_words.specs.declared.settings.DrawingSettings.{DrawingSettings}
-use Rattle.zint_words.specs.declared.settings.Origin.{Origin}
-use Rattle.zint_words.specs.declared.settings.Origin.TheVariants as origin
-use Rattle.zint_words.specs.declared.settings.ReadingSettings.{ReadingSettings}
-use Rattle.zint_words.specs.declared.settings.Settings.{Settings}
-use Rattle.zint_words.specs.declared.settings.Settings.TheVariants as settings
 
--- where the message comes from: it is a text, or it is read from the input of a name
-pub data MessageOrigin : Type 0 where
-  from_text : Text → MessageOrigin
-  from_input : Text → MessageOrigin
-
--- the text of `--data`, where it is given, and else the input that `--input` names
+-- the text of `--data`, where it is given, else the input that `--input` names, and else nothing
 unfoldable pub origin_of : Values → MessageOrigin
-origin_of v = option_map_or from_text (v Data) (from_input (unwrap_or (v Input) []))
-
--- a segment behind the data: the ECI number of its character set, and its data
-pub record SegmentText : Type 0 where
-  pub eci : ℕ
-  pub text : Text
-
--- what is asked of a drawing
-pub record DrawingRequest : Type 0 where
-  pub origin : MessageOrigin
-  pub output : Option Text
-  pub options : DrawingOptions
-  pub append : Option Append
-  pub segments : List SegmentText
-
--- what is asked of a reading: the name of the input and of the output, and how the picture was painted
-pub record ReadingRequest : Type 0 where
-  pub input : Text
-  pub output : Option Text
-  pub paint : Paint
-
--- what is asked of the demonstration: its number, and the name of the output
-pub record DemonstrationRequest : Type 0 where
-  pub number : ℕ
-  pub output : Option Text
-
--- what is asked for
-pub data Request : Type 0 where
-  drawing : DrawingRequest → Request
-  reading : ReadingRequest → Request
-  demonstration : DemonstrationRequest → Request
+origin_of v = option_map_or from_text (v Data) (option_map_or from_input (v Input) (from_text []))
 
 -- the place in a structured append set, where one is given
 unfoldable pub append_of : Values → Option Append
@@ -84,60 +44,26 @@ segments_of v = filter_map (segment_given v) SEGMENT_OPTIONS.now
 
 -- the drawing that is asked for, by the values of the options
 unfoldable pub drawing_by : Values → DrawingRequest
-drawing_by v = record {
-  origin = origin_of v;
-  output = v Output;
-  options = drawing_options_of v;
-  append = append_of v;
-  segments = segments_of v;
-}
+drawing_by v = record { options = drawing_options_of v; append = append_of v; segments = segments_of v }
 
--- the reading that is asked for, by the values of the options
-unfoldable pub reading_by : Values → ReadingRequest
-reading_by v = record { input = unwrap_or (v Input) []; output = v Output; paint = paint_of v }
+-- how the symbol stands in the image: anywhere in it, or with modules that may be unknown, or as the whole of it
+unfoldable pub frame_of : Values → Frame
+frame_of v = if is_some (v Find) then Anywhere
+    else (if is_some (v Erasures) then Unknown (paint_of v) else Whole (paint_of v))
 
--- the demonstration that is asked for, by the values of the options
-unfoldable pub demonstration_by : Values → DemonstrationRequest
-demonstration_by v = record { number = given_number v Demo 0; output = v Output }
+-- the symbology whose row is looked for, where one is
+unfoldable pub row_of : Values → Option RowSymbology
+row_of v = option_and_then row_symbology_in (v Scan)
 
--- the demonstration where `--demo` is given, a reading where `--read` is, and else a drawing
+-- what is looked for: a row of bars, or an Aztec symbol
+unfoldable pub look_of : Values → Look
+look_of v = option_map_or Row (row_of v) (Aztec (frame_of v))
+
+-- the demonstration where `--demo` is given, a reading where `--read` or `--scan` is, and else a drawing
+unfoldable pub task_by : Values → Task
+task_by v = if is_some (v Demo) then demonstration (given_number v Demo 0)
+    else (if is_some (v Read) || is_some (v Scan) then reading (look_of v) else drawing (drawing_by v))
+
+-- what is asked for, by the values of the options
 unfoldable pub request_by : Values → Request
-request_by v = if is_some (v Demo) then demonstration (demonstration_by v)
-    else (if is_some (v Read) then reading (reading_by v) else drawing (drawing_by v))
-
--- the same, as the settings of the code hold it
-abbrev pub origin_in : Origin → MessageOrigin
-origin_in (origin.Text t) = from_text t.now
-origin_in (origin.Input name) = from_input name.now
-
--- a place in a structured append set, as the settings of the code hold it
-abbrev pub append_in : SetPlace → Append
-append_in place = record { index = place.index; count = place.count; id = place.id.now }
-
--- a segment, as the settings of the code hold it
-abbrev pub segment_in : Segment → SegmentText
-segment_in segment = record { eci = segment.eci; text = segment.text.now }
-
--- a drawing that is asked for, as the settings of the code hold it
-abbrev pub drawing_in : DrawingSettings → DrawingRequest
-drawing_in s = record {
-  origin = origin_in s.origin;
-  output = option_map (λ t. t.now) s.output;
-  options = s.options;
-  append = option_map append_in s.append;
-  segments = map segment_in s.segments.items;
-}
-
--- a reading that is asked for, as the settings of the code hold it
-abbrev pub reading_in : ReadingSettings → ReadingRequest
-reading_in s = record { input = s.input.now; output = option_map (λ t. t.now) s.output; paint = s.paint }
-
--- a demonstration that is asked for, as the settings of the code hold it
-abbrev pub demonstration_in : DemonstrationSettings → DemonstrationRequest
-demonstration_in s = record { number = s.number; output = option_map (λ t. t.now) s.output }
-
--- what is asked for, as the settings of the code hold it
-abbrev pub request_in : Settings → Request
-request_in (settings.Drawing s) = drawing (drawing_in s)
-request_in (settings.Reading s) = reading (reading_in s)
-request_in (settings.Demonstration s) = demonstration (demonstration_in s)
+request_by v = record { origin = origin_of v; output = v Output; task = task_by v }

@@ -4,11 +4,11 @@ ghost use Rattle.std.specs.Char.{is_ascii_graphic};
 ghost use Rattle.std.specs.List.{list_all};
 ghost use Rattle.zint_words.specs.Commas.{parts_at_comma};
 ghost use Rattle.zint_words.specs.SetPlace.{count_and_identifier, is_identifier, set_place_in};
-ghost use Rattle.zint_words.specs.Settings.{append_in, segment_in, segment_in_text};
+ghost use Rattle.zint_settings.specs.Settings.{append_in, segment_in};
+ghost use Rattle.zint_words.specs.Settings.{segment_in_text};
 
-use crate::segment::Segment;
-use crate::set_place::SetPlace;
 use crate::values::{character_set_in, whole_number_in};
+use zint_settings::{Segment, SetPlace};
 
 /// The place that the text writes as `I,C` or `I,C,ID`: the `I`-th of `C` symbols of the set with the identifier `ID`.
 #[tactic(auto, unfolding(crate::specs::SetPlace::set_place_in))]

@@ -2,12 +2,10 @@
 ghost use Rattle.std.specs.Prelude.{◌≡◌, option_map, is_some};
 ghost use Rattle.zint_words.specs.CommandLine.{given_as};
 
-use crate::drawing_options::Gs1Brackets;
-use crate::form::{Form, form_by_ending, form_in};
 use crate::options::{OptionName, Takes};
-use crate::symbology::{Symbology, symbology_in};
-use crate::values::whole_number_in;
+use crate::values::{symbology_in, whole_number_in};
 use clap::ArgMatches;
+use zint_settings::{Form, Gs1Brackets, Symbology, form_by_ending, form_in};
 
 /// The values of the options, as the words give them.
 #[derive(Drop)]

@@ -3,8 +3,8 @@ ghost use Rattle.std.specs.Prelude.{◌≡◌};
 ghost use Rattle.zint_words.specs.CommandLine.{action_for, long_name, short_name, taken_by};
 ghost use Rattle.zint_words.specs.Options.{admits, has_option, has_symbology, is_for_gs1, suits};
 
-use crate::symbology::Symbology;
 use clap::ArgAction;
+use zint_settings::Symbology;
 
 /// The options of the command.
 #[derive(Clone, Copy, Debug, PartialEq, Eq)]
@@ -38,6 +38,9 @@ pub enum OptionName {
     Seg7,
     Seg8,
     Seg9,
+    Erasures,
+    Scan,
+    Find,
 }
 
 /// What an option takes.
@@ -55,6 +58,8 @@ pub enum Takes {
     FormName,
     /// A whole number from the first to the second.
     Number(u32, u32),
+    /// The number of a symbology whose rows are read.
+    RowSymbologyNumber,
     /// A whole number from 1 to the greatest version of the symbology.
     Version,
     /// The ECI number of a character set.
@@ -91,7 +96,7 @@ macro_rules! option_table {
                 [Code39 ExtendedCode39 Gs1Code128 Code128 Code93 Itf14], any_data, any_option),
             $column!(Structapp, "structapp", None, Takes::SetPlace, [Aztec], any_data, any_option),
             $column!(Read, "read", None, Takes::Flag, every, any_data,
-                [Input Output Direct Scale Whitesp Vwhitesp]),
+                [Input Output Direct Scale Whitesp Vwhitesp Erasures Find]),
             $column!(Demo, "demo", None, Takes::Number(0, 2_147_483_647), every, any_data, [Output Direct]),
             $column!(Seg1, "seg1", None, Takes::Segment, [Aztec], no_gs1, any_option),
             $column!(Seg2, "seg2", None, Takes::Segment, [Aztec], no_gs1, any_option),
@@ -102,6 +107,9 @@ macro_rules! option_table {
             $column!(Seg7, "seg7", None, Takes::Segment, [Aztec], no_gs1, any_option),
             $column!(Seg8, "seg8", None, Takes::Segment, [Aztec], no_gs1, any_option),
             $column!(Seg9, "seg9", None, Takes::Segment, [Aztec], no_gs1, any_option),
+            $column!(Erasures, "erasures", None, Takes::Flag, every, any_data, any_option),
+            $column!(Scan, "scan", None, Takes::RowSymbologyNumber, every, any_data, [Input Output Direct]),
+            $column!(Find, "find", None, Takes::Flag, every, any_data, any_option),
         ]
     };
 }

@@ -3,23 +3,9 @@ ghost use Rattle.std.specs.Prelude.{◌≡◌, IfOk, IfErr, map, option_map, str
 ghost use Rattle.zint_words.specs.CommandLine.{is_refused, values_by};
 ghost use Rattle.zint_words.specs.GivenValues.{values_of};
 ghost use Rattle.zint_words.specs.Outcome.{IsRefusedBy, IsUnreadable, outcome_by, outcome_of, settings};
-ghost use Rattle.zint_words.specs.Settings.{
-  append_in,
-  append_of,
-  demonstration_by,
-  demonstration_in,
-  drawing_by,
-  drawing_in,
-  origin_in,
-  origin_of,
-  reading_by,
-  reading_in,
-  request_by,
-  request_in,
-  segment_given,
-  segment_in,
-  segments_of,
-};
+ghost use Rattle.zint_settings.specs.Settings.{append_in, drawing_in, origin_in, request_in, segment_in, task_in};
+ghost use Rattle.zint_settings.specs.Looks.{IsFrame, IsLook};
+ghost use Rattle.zint_words.specs.Settings.{append_of, drawing_by, frame_of, look_of, origin_of, request_by, row_of, segment_given, segments_of, task_by};
 
 use crate::broken_rule::broken_text;
 use crate::comma_values::{segment_in, set_place_in};
@@ -29,11 +15,10 @@ use crate::given::Given;
 use crate::options::{OptionName, SEGMENT_OPTIONS};
 use crate::refusal::Refusal;
 use crate::rules::first_broken;
-use crate::segment::Segment;
-use crate::set_place::SetPlace;
-use crate::settings::{DemonstrationSettings, DrawingSettings, Origin, ReadingSettings, Settings};
+use crate::values::row_symbology_in;
 use clap::error::ErrorKind;
 use std::alloc::{AllocError, Global};
+use zint_settings::{DrawingSettings, Frame, Look, Origin, ReadingSettings, RowSymbology, Segment, SetPlace, Settings, TaskSettings};
 
 /// The settings that the words ask for. The first word is the program's name.
 ///
@@ -78,33 +63,57 @@ fn given_by<'a>(alloc: Global, words: &'a [String]) -> Result<Given<'a>, Refusal
 fn request_by<'a>(alloc: Global, given: &Given<'a>) -> Result<Settings<'a>, AllocError>
     ensures { IfOk result (λ s. request_in s ≡ request_by (values_of given.now)) }
 {
+    let task = task_by(alloc, given)?;
+    Ok(Settings {
+        origin: origin_of(given),
+        output: given.value(OptionName::Output),
+        task,
+    })
+}
+
+#[tactic(auto, unfolding(crate::specs::Settings::task_by))]
+fn task_by<'a>(alloc: Global, given: &Given<'a>) -> Result<TaskSettings<'a>, AllocError>
+    ensures { IfOk result (λ t. task_in t ≡ task_by (values_of given.now)) }
+{
     if given.has(OptionName::Demo) {
-        Ok(Settings::Demonstration(demonstration_by(given)))
-    } else if given.has(OptionName::Read) {
-        Ok(Settings::Reading(reading_by(given)))
+        Ok(TaskSettings::Demonstration(given.number(OptionName::Demo, 0)))
+    } else if given.has(OptionName::Read) || given.has(OptionName::Scan) {
+        let look = look_of(given);
+        Ok(TaskSettings::Reading(ReadingSettings { look }))
     } else {
-        Ok(Settings::Drawing(drawing_by(alloc, given)?))
+        Ok(TaskSettings::Drawing(drawing_by(alloc, given)?))
     }
 }
 
-#[tactic(auto, unfolding(crate::specs::Settings::demonstration_by))]
-fn demonstration_by<'a>(given: &Given<'a>) -> DemonstrationSettings<'a>
-    ensures { demonstration_in result ≡ demonstration_by (values_of given.now) }
+#[tactic(auto, unfolding(crate::specs::Settings::look_of))]
+fn look_of(given: &Given<'_>) -> Look
+    ensures look { result ≡ look_of (values_of given.now) }
+    ensures in_range { IsLook result }
 {
-    DemonstrationSettings {
-        number: given.number(OptionName::Demo, 0),
-        output: given.value(OptionName::Output),
+    match row_of(given) {
+        Some(symbology) => Look::Row(symbology),
+        None => Look::Aztec(frame_of(given)),
     }
 }
 
-#[tactic(auto, unfolding(crate::specs::Settings::reading_by))]
-fn reading_by<'a>(given: &Given<'a>) -> ReadingSettings<'a>
-    ensures { reading_in result ≡ reading_by (values_of given.now) }
+#[tactic(auto, unfolding(crate::specs::Settings::row_of))]
+fn row_of(given: &Given<'_>) -> Option<RowSymbology>
+    ensures { result ≡ row_of (values_of given.now) }
 {
-    ReadingSettings {
-        input: given.value(OptionName::Input).unwrap_or(""),
-        output: given.value(OptionName::Output),
-        paint: paint_of(given),
+    row_symbology_in(given.value(OptionName::Scan)?)
+}
+
+#[tactic(auto, unfolding(crate::specs::Settings::frame_of))]
+fn frame_of(given: &Given<'_>) -> Frame
+    ensures frame { result ≡ frame_of (values_of given.now) }
+    ensures in_range { IsFrame result }
+{
+    if given.has(OptionName::Find) {
+        Frame::Anywhere
+    } else if given.has(OptionName::Erasures) {
+        Frame::Unknown(paint_of(given))
+    } else {
+        Frame::Whole(paint_of(given))
     }
 }
 
@@ -115,8 +124,6 @@ fn drawing_by<'a>(alloc: Global, given: &Given<'a>) -> Result<DrawingSettings<'a
     let segments = segments_of(alloc, given)?;
     let options = drawing_options(given);
     Ok(DrawingSettings {
-        origin: origin_of(given),
-        output: given.value(OptionName::Output),
         options,
         append: append_of(given),
         segments,
@@ -154,8 +161,11 @@ fn segment_given<'a>(given: &Given<'a>, option: OptionName) -> Option<Segment<'a
 fn origin_of<'a>(given: &Given<'a>) -> Origin<'a>
     ensures { origin_in result ≡ origin_of (values_of given.now) }
 {
-    match given.value(OptionName::Data) {
-        Some(text) => Origin::Text(text),
-        None => Origin::Input(given.value(OptionName::Input).unwrap_or("")),
+    let text = given.value(OptionName::Data);
+    let name = given.value(OptionName::Input);
+    match (text, name) {
+        (Some(text), _) => Origin::Text(text),
+        (None, Some(name)) => Origin::Input(name),
+        (None, None) => Origin::Text(""),
     }
 }

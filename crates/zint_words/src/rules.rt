@@ -4,11 +4,10 @@ ghost use Rattle.zint_words.specs.GivenValues.{values_of};
 ghost use Rattle.zint_words.specs.Rules.{breaks, excluded_by, first_broken, is_good_text, is_good_value, not_admitted_by};
 
 use crate::comma_values::{segment_in, set_place_in};
-use crate::form::{form_in, has_left_out_ending};
 use crate::given::Given;
 use crate::options::{OPTION_NAMES, OptionName, Takes, option_table};
-use crate::symbology::symbology_in;
-use crate::values::{character_set_in, whole_number_in};
+use crate::values::{character_set_in, row_symbology_in, symbology_in, whole_number_in};
+use zint_settings::{form_in, has_left_out_ending};
 
 /// A rule on the options.
 #[derive(Clone, Copy, Debug)]
@@ -35,7 +34,8 @@ pub const PAIRS: &[Rule] = &[
     Rule::Alone(OptionName::Read),
 ];
 
-/// What must not be missing, in the order in which it is tested.
+/// What must not be missing where an option is given, what is not given with an option that has no use for it, and the
+/// message, in the order in which they are tested.
 pub const NEEDS: &[Rule] = &[
     Rule::Behind(OptionName::Seg2, OptionName::Seg1),
     Rule::Behind(OptionName::Seg3, OptionName::Seg2),
@@ -45,6 +45,13 @@ pub const NEEDS: &[Rule] = &[
     Rule::Behind(OptionName::Seg7, OptionName::Seg6),
     Rule::Behind(OptionName::Seg8, OptionName::Seg7),
     Rule::Behind(OptionName::Seg9, OptionName::Seg8),
+    Rule::Behind(OptionName::Erasures, OptionName::Read),
+    Rule::Alone(OptionName::Scan),
+    Rule::Behind(OptionName::Find, OptionName::Read),
+    Rule::Apart(OptionName::Find, OptionName::Scale),
+    Rule::Apart(OptionName::Find, OptionName::Whitesp),
+    Rule::Apart(OptionName::Find, OptionName::Vwhitesp),
+    Rule::Apart(OptionName::Find, OptionName::Erasures),
     Rule::Message,
 ];
 
@@ -147,6 +154,7 @@ fn is_good_text(given: &Given<'_>, takes: Takes, text: &str) -> bool
         Takes::Flag => true,
         Takes::Text => true,
         Takes::SymbologyNumber => symbology_in(text).is_some(),
+        Takes::RowSymbologyNumber => row_symbology_in(text).is_some(),
         Takes::FileName => given.has(OptionName::Filetype) || !has_left_out_ending(text),
         Takes::FormName => form_in(text).is_some(),
         Takes::Number(low, high) => whole_number_in(low, high, text).is_some(),

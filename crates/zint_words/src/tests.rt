@@ -1,9 +1,9 @@
-use crate::form::FORMS;
 use crate::options::{OPTION_NAMES, OptionName};
-use crate::symbology::SYMBOLOGIES;
-use crate::{Refusal, Settings, Symbology, settings_of};
+use crate::{Refusal, settings_of};
+use bar_base::Paint;
 use std::alloc::Global;
 use std::test::Fail;
+use zint_settings::{FORMS, Frame, Look, SYMBOLOGIES, Settings, Symbology, TaskSettings};
 
 // The words with `|` between them, behind the program's name.
 fn listed(alloc: Global, words: &str) -> Result<Vec<String>, Fail> {
@@ -126,6 +126,23 @@ const READINGS: &[(&str, &str)] = &[
         "--read with --structapp",
     ),
     ("--read|-ia|--seg1=7,x", "--read with --seg1"),
+    ("--read|-ia|--erasures", "ok"),
+    ("-b92|-dA|--erasures", "--erasures without --read"),
+    ("--erasures|--find", "--erasures without --read"),
+    ("--read|-ia|--find", "ok"),
+    ("-b92|-dA|--find", "--find without --read"),
+    ("--find|--scale=2", "--find without --read"),
+    (
+        "--read|-ia|--find|--whitesp=1|--scale=2",
+        "--find with --scale",
+    ),
+    (
+        "--read|-ia|--find|--vwhitesp=2|--whitesp=1",
+        "--find with --whitesp",
+    ),
+    ("--read|--find|--vwhitesp=2", "--find with --vwhitesp"),
+    ("--read|--find|--erasures", "--find with --erasures"),
+    ("--read|--find", "no input"),
 ];
 
 // Each symbology by its number, and the default.
@@ -274,6 +291,8 @@ const HELD: &[(&str, &str)] = &[
         "paint 3 4 5",
     ),
     ("--read|-ia", "paint 1 0 0"),
+    ("--read|-ia|--erasures|--scale=3", "unknown, paint 3 0 0"),
+    ("--read|-ia|--find", "anywhere"),
     (
         "-b92|-dA|--structapp=02,026",
         "share 23, paint 1 0 0, height 50, place 2 of 26 ",
@@ -307,8 +326,8 @@ fn held(rt: HostRuntime) -> Result<(), Fail> {
 }
 
 fn told(alloc: Global, settings: &Settings<'_>) -> Result<String, Fail> {
-    match settings {
-        Settings::Drawing(drawing) => {
+    match &settings.task {
+        TaskSettings::Drawing(drawing) => {
             let options = drawing.options;
             let mut text = format!(in alloc;
                 "share {}, paint {} {} {}, height {}",
@@ -330,14 +349,22 @@ fn told(alloc: Global, settings: &Settings<'_>) -> Result<String, Fail> {
             }
             Ok(text)
         }
-        Settings::Reading(reading) => {
-            let paint = reading.paint;
-            Ok(format!(in alloc; "paint {} {} {}", paint.scale, paint.white, paint.vwhite)?)
-        }
-        Settings::Demonstration(demonstration) => {
-            Ok(format!(in alloc; "number {}", demonstration.number)?)
-        }
+        TaskSettings::Reading(reading) => looked_for(alloc, reading.look),
+        TaskSettings::Demonstration(number) => Ok(format!(in alloc; "number {}", number)?),
     }
+}
+
+// What a reading looks for, and in which way.
+fn looked_for(alloc: Global, look: Look) -> Result<String, Fail> {
+    match look {
+        Look::Aztec(Frame::Whole(paint)) => painted(alloc, "paint", paint),
+        Look::Aztec(Frame::Unknown(paint)) => painted(alloc, "unknown, paint", paint),
+        Look::Aztec(Frame::Anywhere) => Ok(String::from_str(alloc, "anywhere")?),
+    }
+}
+
+fn painted(alloc: Global, front: &str, paint: Paint) -> Result<String, Fail> {
+    Ok(format!(in alloc; "{front} {} {} {}", paint.scale, paint.white, paint.vwhite)?)
 }
 
 // The number and the name of each symbology.

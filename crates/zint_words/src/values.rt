@@ -1,13 +1,12 @@
-//! What the value of an option may be: whole numbers, and the endings of file names.
+//! What the value of an option may be: whole numbers.
 ghost use Rattle.std.specs.Prelude.{◌≡◌, ◌≤◌, IfSome, Some, true};
 ghost use Rattle.std.specs.Char.{is_ascii_digit};
-ghost use Rattle.std.specs.List.{list_all, list_any};
+ghost use Rattle.std.specs.List.{list_all};
 ghost use Rattle.std.specs.Str.Parse.{digits_value};
-ghost use Rattle.zint_words.specs.Forms.{ends_in};
-ghost use Rattle.zint_words.specs.Numbers.{character_set_in, is_character_set, is_whole_number, whole_number, whole_number_in};
+ghost use Rattle.zint_settings.specs.CharacterSets.{is_character_set};
+ghost use Rattle.zint_words.specs.Numbers.{character_set_in, is_whole_number, row_symbology_in, symbology_in, whole_number, whole_number_in};
 
-/// The ECI numbers of the character sets that texts are encoded in.
-pub const CHARACTER_SETS: [u32; 10] = [3, 7, 11, 17, 22, 23, 25, 26, 27, 899];
+use zint_settings::{RowSymbology, Symbology, is_character_set, row_symbology_numbered, symbology_numbered};
 
 /// The number that the text writes, where it is 1 to 10 decimal digits; leading zeros are allowed.
 #[tactic(auto, unfolding(crate::specs::Numbers::whole_number))]
@@ -69,24 +68,18 @@ pub fn character_set_in(text: &str) -> Option<u32>
     }
 }
 
-#[tactic(auto, unfolding(crate::specs::Numbers::is_character_set))]
-fn is_character_set(number: u32) -> bool
-    ensures { result ≡ is_character_set number }
+/// The symbology whose number the text writes.
+#[tactic(auto, unfolding(crate::specs::Numbers::symbology_in))]
+pub fn symbology_in(text: &str) -> Option<Symbology>
+    ensures { result ≡ symbology_in text.now }
 {
-    CHARACTER_SETS.iter().any(|set| *set == number)
+    symbology_numbered(whole_number(text)?)
 }
 
-/// Whether the name ends in the text.
-#[tactic(auto, unfolding(crate::specs::Forms::ends_in))]
-pub fn ends_in(name: &str, ending: &str) -> bool
-    ensures { result ≡ ends_in ending.now name.now }
+/// The symbology whose rows are read, and whose number the text writes.
+#[tactic(auto, unfolding(crate::specs::Numbers::row_symbology_in))]
+pub fn row_symbology_in(text: &str) -> Option<RowSymbology>
+    ensures { result ≡ row_symbology_in text.now }
 {
-    name.as_bytes().ends_with(ending.as_bytes())
-}
-
-/// Whether the name ends in one of the texts.
-pub fn ends_in_any(name: &str, endings: &[&str]) -> bool
-    ensures { result ≡ list_any (λ ending. ends_in ending.now name.now) endings.now }
-{
-    endings.iter().any(|ending| ends_in(name, ending))
+    row_symbology_numbered(whole_number(text)?)
 }

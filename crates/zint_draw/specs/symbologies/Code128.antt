@@ -6,16 +6,16 @@ use Rattle.aztec_modes.specs.Message.{message_elements}
 use Rattle.code128_best.specs.Spelling.{AreDrawnValues}
 use Rattle.code128_best.specs.Symbol.{check128, symbol_widths128}
 use Rattle.code128_best.specs.declared.drawing.TheConstants.{MOST_ELEMENTS}
-use Rattle.zint_texts.specs.Report.{numbers_text}
-use Rattle.zint_texts.specs.Steps.{Step, ◌>>=◌, only}
-use Rattle.zint_texts.specs.declared.detail.Unit.TheVariants.{Elements}
-use Rattle.zint_texts.specs.declared.refusal.Refusal.{Refusal}
-use Rattle.zint_texts.specs.declared.refusal.Refusal.TheVariants.{TooLong}
-use Rattle.zint_words.specs.Symbologies.{symbology_number}
-use Rattle.zint_words.specs.declared.drawing_options.DrawingOptions.{DrawingOptions}
-use Rattle.zint_words.specs.declared.drawing_options.Gs1Brackets.{Gs1Brackets}
-use Rattle.zint_words.specs.declared.drawing_options.Gs1Brackets.TheVariants.{Round, Square}
-use Rattle.zint_words.specs.declared.symbology.Symbology.{Symbology}
+use Rattle.zint_answers.specs.Report.{numbers_text}
+use Rattle.bar_base.specs.Steps.{Step, ◌>>=◌, only}
+use Rattle.zint_answers.specs.declared.detail.Unit.TheVariants.{Elements}
+use Rattle.zint_answers.specs.declared.refusal.Refusal.{Refusal}
+use Rattle.zint_answers.specs.declared.refusal.Refusal.TheVariants.{TooLong}
+use Rattle.zint_settings.specs.Symbologies.{symbology_number}
+use Rattle.zint_settings.specs.declared.drawing_options.DrawingOptions.{DrawingOptions}
+use Rattle.zint_settings.specs.declared.drawing_options.Gs1Brackets.{Gs1Brackets}
+use Rattle.zint_settings.specs.declared.drawing_options.Gs1Brackets.TheVariants.{Round, Square}
+use Rattle.zint_settings.specs.declared.symbology.Symbology.{Symbology}
 use Rattle.zint_draw.specs.Message.{message_for}
 use Rattle.zint_draw.specs.declared.message.DataKind.{DataKind}
 use Rattle.zint_draw.specs.declared.message.DataKind.TheVariants as kind
@@ -39,20 +39,20 @@ within_limit128 elements =
     if nat_lt MOST_ELEMENTS (length elements) then Err (TooLong MOST_ELEMENTS Elements) else Ok elements
 
 -- the elements of data: those of its message
-unfoldable pub elements128 : DrawingOptions → (bytes : List ℕ) → Step (List Element)
+unfoldable pub elements128 : DrawingOptions → (bytes : List ℕ) → Step (List Element) Refusal
 elements128 options bytes = do
   message ← message_for (kind128 options) bytes
   only (within_limit128 (message_elements message))
 
 -- The symbol of elements: the row of their drawn values.
-abbrev pub draws_values : Symbology → (elements : List Element) → Step Symbol
+abbrev pub draws_values : Symbology → (elements : List Element) → Step Symbol Refusal
 draws_values symbology elements (Ok (symbol.Code128 s)) =
     (s.symbology ≡ symbology) × AreDrawnValues elements s.values × (s.grid ≡ row_picture (symbol_widths128 s.values))
 draws_values symbology elements (Ok _) = ⊥
 draws_values symbology elements (Err _) = ⊥
 
 -- the symbol of data
-unfoldable pub draws128 : DrawingOptions → (bytes : List ℕ) → Step Symbol
+unfoldable pub draws128 : DrawingOptions → (bytes : List ℕ) → Step Symbol Refusal
 draws128 options bytes = do
   elements ← elements128 options bytes
   draws_values options.symbology elements

@@ -4,14 +4,14 @@ use Rattle.bar_base.specs.Picture.{Picture, with_height}
 use Rattle.bar_base.specs.declared.linear.Linear.{Linear}
 use Rattle.bar_base.specs.declared.linear.LinearFault.{LinearFault}
 use Rattle.bar_base.specs.declared.linear.LinearFault.TheVariants as linear_variants
-use Rattle.zint_texts.specs.Report.{numbers_text}
-use Rattle.zint_texts.specs.declared.detail.Kind.TheVariants.{Character}
-use Rattle.zint_texts.specs.declared.detail.Unit.TheVariants.{Bytes}
-use Rattle.zint_texts.specs.declared.fault.Fault.{Fault}
-use Rattle.zint_texts.specs.declared.fault.Fault.TheVariants.{NoMemory, Refused}
-use Rattle.zint_texts.specs.declared.refusal.Refusal.TheVariants.{BadCheck, BadData, TooLong}
-use Rattle.zint_words.specs.Symbologies.{symbology_number}
-use Rattle.zint_words.specs.declared.symbology.Symbology.{Symbology}
+use Rattle.zint_answers.specs.Report.{numbers_text}
+use Rattle.zint_answers.specs.declared.detail.Kind.TheVariants.{Character}
+use Rattle.zint_answers.specs.declared.detail.Unit.TheVariants.{Bytes}
+use Rattle.zint_answers.specs.declared.fault.Fault.{Fault}
+use Rattle.zint_answers.specs.declared.fault.Fault.TheVariants.{NoMemory, Refused}
+use Rattle.zint_answers.specs.declared.refusal.Refusal.TheVariants.{BadCheck, BadData, TooLong}
+use Rattle.zint_settings.specs.Symbologies.{symbology_number}
+use Rattle.zint_settings.specs.declared.symbology.Symbology.{Symbology}
 
 -- What a fault of drawing is here; `most` is how many bytes of data the symbol takes.
 abbrev pub linear_fault : (most : ℕ) → LinearFault → Fault

@@ -4,11 +4,11 @@ use Rattle.std.specs.Char.{is_ascii_digit}
 use Rattle.std.specs.List.{list_all}
 use Rattle.std.specs.Str.Parse.{digits_value}
 use Rattle.aztec_layout.specs.Rune.{IsRune, IsRuneMessage}
-use Rattle.zint_texts.specs.Report.{numbers_text}
-use Rattle.zint_texts.specs.Steps.{Step, ◌>>=◌, only}
-use Rattle.zint_texts.specs.declared.detail.Kind.TheVariants.{Number}
-use Rattle.zint_texts.specs.declared.refusal.Refusal.{Refusal}
-use Rattle.zint_texts.specs.declared.refusal.Refusal.TheVariants.{BadData}
+use Rattle.zint_answers.specs.Report.{numbers_text}
+use Rattle.bar_base.specs.Steps.{Step, ◌>>=◌, only}
+use Rattle.zint_answers.specs.declared.detail.Kind.TheVariants.{Number}
+use Rattle.zint_answers.specs.declared.refusal.Refusal.{Refusal}
+use Rattle.zint_answers.specs.declared.refusal.Refusal.TheVariants.{BadData}
 use Rattle.zint_draw.specs.declared.symbologies.rune.RuneSymbol.{RuneSymbol}
 use Rattle.zint_draw.specs.declared.symbologies.Symbol.{Symbol}
 use Rattle.zint_draw.specs.declared.symbologies.Symbol.TheVariants.{Rune}
@@ -32,13 +32,13 @@ abbrev pub rune_value : (bytes : List ℕ) → Result ℕ Refusal
 rune_value bytes = number_or (rune_number bytes)
 
 -- every value has its rune
-abbrev pub draws_value : (value : ℕ) → Step Symbol
+abbrev pub draws_value : (value : ℕ) → Step Symbol Refusal
 draws_value value (Ok (Rune symbol)) = IsRuneMessage value symbol.words × IsRune value symbol.grid
 draws_value value (Ok _) = ⊥
 draws_value value (Err _) = ⊥
 
 -- the rune of data
-unfoldable pub draws_rune : (bytes : List ℕ) → Step Symbol
+unfoldable pub draws_rune : (bytes : List ℕ) → Step Symbol Refusal
 draws_rune bytes = do
   value ← only (rune_value bytes)
   draws_value value

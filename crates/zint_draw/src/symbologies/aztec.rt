@@ -1,8 +1,9 @@
 //! Aztec Code (ISO/IEC 24778).
 ghost use Rattle.std.specs.Prelude.{◌≡◌, ◌≤◌, ◌<◌, IfOk, length};
 ghost use Rattle.aztec_modes.specs.Message.{IsMessage, message_elements};
-ghost use Rattle.zint_texts.specs.Steps.{MayAnswer, only};
-ghost use Rattle.zint_words.specs.Settings.{drawing_in};
+ghost use Rattle.bar_base.specs.Steps.{only};
+ghost use Rattle.zint_answers.specs.Steps.{MayAnswer};
+ghost use Rattle.zint_settings.specs.Settings.{drawing_in};
 ghost use Rattle.zint_draw.specs.Segments.{bytes_in_segments};
 ghost use Rattle.zint_draw.specs.symbologies.Aztec.{aztec_head, draws_aztec, draws_elements, elements_for, within_limit};
 
@@ -11,14 +12,14 @@ use crate::symbologies::Symbol;
 use aztec_best::MOST_ELEMENTS;
 use aztec_draw::{AztecSymbol, DrawFault, draw_elements};
 use aztec_layout::{Allowed, codewords, side};
-use aztec_modes::elements_of;
+use aztec_modes::into_elements;
 use bar_base::{Elements, MOST_BYTES, Message, NoMemory};
 use std::alloc::Global;
-use zint_texts::{Fault, Refusal, Unit, put_bits, put_number, put_size, put_text};
-use zint_words::DrawingSettings;
+use zint_answers::{Fault, Refusal, Unit, put_bits, put_number, put_size, put_text};
+use zint_settings::DrawingSettings;
 
 /// The symbol of data, and of the segments behind it.
-#[tactic(auto, using(zint_texts::proofs::Steps::stepping), unfolding(crate::specs::symbologies::Aztec::draws_aztec))]
+#[tactic(auto, using(zint_answers::proofs::Steps::stepping), unfolding(crate::specs::symbologies::Aztec::draws_aztec))]
 pub fn draw(alloc: Global, settings: &DrawingSettings<'_>, bytes: &[u8]) -> Result<Symbol, Fault>
     requires some { 0 < length bytes.now }
     requires few { bytes_in_segments (drawing_in settings.now).segments ≤ MOST_BYTES }
@@ -29,7 +30,7 @@ pub fn draw(alloc: Global, settings: &DrawingSettings<'_>, bytes: &[u8]) -> Resu
 }
 
 /// The elements of data and of the segments behind it, of which there are not too many.
-#[tactic(auto, using(zint_texts::proofs::Steps::stepping), unfolding(crate::specs::symbologies::Aztec::elements_for))]
+#[tactic(auto, using(zint_answers::proofs::Steps::stepping), unfolding(crate::specs::symbologies::Aztec::elements_for))]
 fn elements_for(
     alloc: Global,
     settings: &DrawingSettings<'_>,
@@ -42,17 +43,17 @@ fn elements_for(
     ensures within { IfOk result (λ elements. length elements ≤ MOST_ELEMENTS) }
 {
     let message = message_of(alloc, settings, bytes)?;
-    within_limit(alloc, &message)
+    within_limit(alloc, message)
 }
 
 /// The elements of a message, of which there are not too many.
-fn within_limit(alloc: Global, message: &Message) -> Result<Elements, Fault>
-    requires { IsMessage message.now }
-    ensures given { MayAnswer (λ elements. elements) result (only (within_limit (message_elements message.now))) }
-    ensures same { IfOk result (λ elements. elements ≡ message_elements message.now) }
+fn within_limit(alloc: Global, message: Message) -> Result<Elements, Fault>
+    requires { IsMessage message }
+    ensures given { MayAnswer (λ elements. elements) result (only (within_limit (message_elements message))) }
+    ensures same { IfOk result (λ elements. elements ≡ message_elements message) }
     ensures within { IfOk result (λ elements. length elements ≤ MOST_ELEMENTS) }
 {
-    let elements = elements_of(alloc, message)?;
+    let elements = into_elements(alloc, message)?;
     if elements.len() > MOST_ELEMENTS {
         return Err(Fault::Refused(Refusal::TooLong(MOST_ELEMENTS as u64, Unit::Elements)));
     }

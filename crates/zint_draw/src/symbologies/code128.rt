@@ -2,7 +2,8 @@
 ghost use Rattle.std.specs.Prelude.{◌≡◌, ◌≤◌, ◌<◌, All, IfOk, length};
 ghost use Rattle.aztec_modes.specs.Message.{IsMessage, message_elements};
 ghost use Rattle.code128_best.specs.Spelling.{AreDrawnValues, IsCode128Element};
-ghost use Rattle.zint_texts.specs.Steps.{MayAnswer, only};
+ghost use Rattle.bar_base.specs.Steps.{only};
+ghost use Rattle.zint_answers.specs.Steps.{MayAnswer};
 ghost use Rattle.zint_draw.specs.Message.{IsDataKind, WritesNoEci};
 ghost use Rattle.zint_draw.specs.symbologies.Code128.{draws128, draws_values, elements128, head128, kind128, within_limit128};
 
@@ -12,8 +13,8 @@ use aztec_modes::elements_of;
 use bar_base::{Elements, Grid, Message, NoMemory};
 use code128_best::{CodeFault, MOST_ELEMENTS, Values, check, modules, shortest};
 use std::alloc::Global;
-use zint_texts::{Fault, Refusal, Unit, put_number, put_numbers, put_text};
-use zint_words::{DrawingOptions, DrawingSettings, Gs1Brackets, Symbology};
+use zint_answers::{Fault, Refusal, Unit, put_number, put_numbers, put_text};
+use zint_settings::{DrawingOptions, DrawingSettings, Gs1Brackets, Symbology};
 
 /// A symbol of Code 128 or GS1-128.
 #[derive(Debug, Drop)]
@@ -27,7 +28,7 @@ pub struct Code128Symbol {
 }
 
 /// The symbol of data.
-#[tactic(auto, using(zint_texts::proofs::Steps::stepping), unfolding(crate::specs::symbologies::Code128::draws128))]
+#[tactic(auto, using(zint_answers::proofs::Steps::stepping), unfolding(crate::specs::symbologies::Code128::draws128))]
 pub fn draw(alloc: Global, settings: &DrawingSettings<'_>, bytes: &[u8]) -> Result<Symbol, Fault>
     requires { 0 < length bytes.now }
     ensures { MayAnswer (λ symbol. symbol) result (draws128 settings.now.options bytes.now) }
@@ -56,7 +57,7 @@ fn data_kind(options: DrawingOptions) -> DataKind
 }
 
 /// The elements of data, of which there are not too many.
-#[tactic(auto, using(zint_texts::proofs::Steps::stepping), unfolding(crate::specs::symbologies::Code128::elements128))]
+#[tactic(auto, using(zint_answers::proofs::Steps::stepping), unfolding(crate::specs::symbologies::Code128::elements128))]
 fn elements_for(alloc: Global, options: DrawingOptions, bytes: &[u8]) -> Result<Elements, Fault>
     requires { 0 < length bytes.now }
     ensures given { MayAnswer (λ elements. elements) result (elements128 options bytes.now) }

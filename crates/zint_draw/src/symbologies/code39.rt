@@ -1,7 +1,7 @@
 //! Code 39 and extended Code 39 (ISO/IEC 16388).
 ghost use Rattle.std.specs.Prelude.{◌≡◌};
 ghost use Rattle.linear_codes.specs.Code39.{code39_full_of, code39_of};
-ghost use Rattle.zint_texts.specs.Steps.{MayAnswer, answered};
+ghost use Rattle.zint_answers.specs.Steps.{MayAnswer, answered};
 ghost use Rattle.zint_draw.specs.symbologies.Code39.{draws39, draws39_full};
 ghost use Rattle.zint_draw.specs.symbologies.Linear.{linear_fault};
 
@@ -10,11 +10,11 @@ use crate::symbologies::linear::linear_fault;
 use bar_base::Linear;
 use linear_codes::{CODE39_MOST_BYTES, code39, code39_full};
 use std::alloc::Global;
-use zint_texts::Fault;
-use zint_words::{DrawingSettings, Symbology};
+use zint_answers::Fault;
+use zint_settings::{DrawingSettings, Symbology};
 
 /// The symbol of data.
-#[tactic(auto, using(zint_texts::proofs::Steps::stepping), unfolding(crate::specs::symbologies::Code39::draws39))]
+#[tactic(auto, using(zint_answers::proofs::Steps::stepping), unfolding(crate::specs::symbologies::Code39::draws39))]
 pub fn draw(alloc: Global, settings: &DrawingSettings<'_>, bytes: &[u8]) -> Result<Symbol, Fault>
     ensures { MayAnswer (λ symbol. symbol) result (draws39 settings.now.options bytes.now) }
 {
@@ -35,7 +35,7 @@ fn plain_symbol(alloc: Global, check: bool, bytes: &[u8]) -> Result<Linear, Faul
 }
 
 /// The symbol of data in full ASCII.
-#[tactic(auto, using(zint_texts::proofs::Steps::stepping), unfolding(crate::specs::symbologies::Code39::draws39_full))]
+#[tactic(auto, using(zint_answers::proofs::Steps::stepping), unfolding(crate::specs::symbologies::Code39::draws39_full))]
 pub fn draw_full(alloc: Global, bytes: &[u8]) -> Result<Symbol, Fault>
     ensures { MayAnswer (λ symbol. symbol) result (draws39_full bytes.now) }
 {

@@ -1,7 +1,7 @@
 //! Code 93 (AIM Code 93).
 ghost use Rattle.std.specs.Prelude.{◌≡◌};
 ghost use Rattle.linear_codes.specs.Code93.{code93_of};
-ghost use Rattle.zint_texts.specs.Steps.{MayAnswer, answered};
+ghost use Rattle.zint_answers.specs.Steps.{MayAnswer, answered};
 ghost use Rattle.zint_draw.specs.symbologies.Code93.{draws93};
 ghost use Rattle.zint_draw.specs.symbologies.Linear.{linear_fault};
 
@@ -10,11 +10,11 @@ use crate::symbologies::linear::linear_fault;
 use bar_base::Linear;
 use linear_codes::{CODE93_MOST_BYTES, code93};
 use std::alloc::Global;
-use zint_texts::Fault;
-use zint_words::Symbology;
+use zint_answers::Fault;
+use zint_settings::Symbology;
 
 /// The symbol of data.
-#[tactic(auto, using(zint_texts::proofs::Steps::stepping), unfolding(crate::specs::symbologies::Code93::draws93))]
+#[tactic(auto, using(zint_answers::proofs::Steps::stepping), unfolding(crate::specs::symbologies::Code93::draws93))]
 pub fn draw(alloc: Global, bytes: &[u8]) -> Result<Symbol, Fault>
     ensures { MayAnswer (λ symbol. symbol) result (draws93 bytes.now) }
 {

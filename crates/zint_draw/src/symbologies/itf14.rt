@@ -1,7 +1,7 @@
 //! ITF-14: interleaved 2 of 5 (ISO/IEC 16390) of fourteen digits.
 ghost use Rattle.std.specs.Prelude.{◌≡◌};
 ghost use Rattle.linear_codes.specs.Itf14.{itf14_of};
-ghost use Rattle.zint_texts.specs.Steps.{MayAnswer, answered};
+ghost use Rattle.zint_answers.specs.Steps.{MayAnswer, answered};
 ghost use Rattle.zint_draw.specs.symbologies.Itf14.{draws14};
 ghost use Rattle.zint_draw.specs.symbologies.Linear.{linear_fault};
 
@@ -10,11 +10,11 @@ use crate::symbologies::linear::linear_fault;
 use bar_base::Linear;
 use linear_codes::{ITF14_MOST_DIGITS, itf14};
 use std::alloc::Global;
-use zint_texts::Fault;
-use zint_words::Symbology;
+use zint_answers::Fault;
+use zint_settings::Symbology;
 
 /// The symbol of data.
-#[tactic(auto, using(zint_texts::proofs::Steps::stepping), unfolding(crate::specs::symbologies::Itf14::draws14))]
+#[tactic(auto, using(zint_answers::proofs::Steps::stepping), unfolding(crate::specs::symbologies::Itf14::draws14))]
 pub fn draw(alloc: Global, bytes: &[u8]) -> Result<Symbol, Fault>
     ensures { MayAnswer (λ symbol. symbol) result (draws14 bytes.now) }
 {

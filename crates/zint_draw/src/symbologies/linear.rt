@@ -4,8 +4,8 @@ ghost use Rattle.zint_draw.specs.symbologies.Linear.{check_line, linear_fault, l
 
 use bar_base::{Grid, Linear, LinearFault, NoMemory};
 use std::alloc::Global;
-use zint_texts::{Fault, Kind, Refusal, Unit, put_number, put_numbers, put_text};
-use zint_words::Symbology;
+use zint_answers::{Fault, Kind, Refusal, Unit, put_number, put_numbers, put_text};
+use zint_settings::Symbology;
 
 /// What a fault of drawing is here; `most` is how many bytes of data the symbol takes.
 pub fn linear_fault(most: usize, fault: LinearFault) -> Fault

@@ -1,7 +1,7 @@
 //! The four-state symbol of the Royal Mail (RM4SCC).
 ghost use Rattle.std.specs.Prelude.{◌≡◌, IfOk};
 ghost use Rattle.four_state.specs.FourState.{rm4scc_of};
-ghost use Rattle.zint_texts.specs.Steps.{MayAnswer, answered};
+ghost use Rattle.zint_answers.specs.Steps.{MayAnswer, answered};
 ghost use Rattle.zint_draw.specs.symbologies.FourState.{draws_four_state, head_four_state};
 ghost use Rattle.zint_draw.specs.symbologies.Linear.{linear_fault};
 
@@ -10,11 +10,11 @@ use crate::symbologies::linear::{linear_fault, linear_head};
 use bar_base::{Linear, NoMemory};
 use four_state::{RM4SCC_MOST_BYTES, rm4scc};
 use std::alloc::Global;
-use zint_texts::Fault;
-use zint_words::Symbology;
+use zint_answers::Fault;
+use zint_settings::Symbology;
 
 /// The symbol of data.
-#[tactic(auto, using(zint_texts::proofs::Steps::stepping), unfolding(crate::specs::symbologies::FourState::draws_four_state))]
+#[tactic(auto, using(zint_answers::proofs::Steps::stepping), unfolding(crate::specs::symbologies::FourState::draws_four_state))]
 pub fn draw(alloc: Global, bytes: &[u8]) -> Result<Symbol, Fault>
     ensures { MayAnswer (λ symbol. symbol) result (draws_four_state bytes.now) }
 {

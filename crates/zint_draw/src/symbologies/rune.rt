@@ -3,14 +3,15 @@ ghost use Rattle.std.specs.Prelude.{◌≡◌, ◌≤◌, ◌<◌, true, IfOk, l
 ghost use Rattle.std.specs.Char.{is_ascii_digit};
 ghost use Rattle.std.specs.List.{list_all};
 ghost use Rattle.std.specs.Str.Parse.{digits_value};
-ghost use Rattle.zint_texts.specs.Steps.{MayAnswer, only};
+ghost use Rattle.bar_base.specs.Steps.{only};
+ghost use Rattle.zint_answers.specs.Steps.{MayAnswer};
 ghost use Rattle.zint_draw.specs.symbologies.Rune.{draws_rune, draws_value, is_short_number, rune_head, rune_number, rune_value};
 
 use crate::symbologies::Symbol;
 use aztec_layout::{rune, rune_words};
 use bar_base::{Grid, NoMemory, Short};
 use std::alloc::Global;
-use zint_texts::{Fault, Kind, Refusal, put_numbers, put_text};
+use zint_answers::{Fault, Kind, Refusal, put_numbers, put_text};
 
 /// An Aztec rune.
 #[derive(Debug, Drop)]
@@ -22,7 +23,7 @@ pub struct RuneSymbol {
 }
 
 /// The rune of data.
-#[tactic(auto, using(zint_texts::proofs::Steps::stepping), unfolding(crate::specs::symbologies::Rune::draws_rune))]
+#[tactic(auto, using(zint_answers::proofs::Steps::stepping), unfolding(crate::specs::symbologies::Rune::draws_rune))]
 pub fn draw(alloc: Global, bytes: &[u8]) -> Result<Symbol, Fault>
     ensures { MayAnswer (λ symbol. symbol) result (draws_rune bytes.now) }
 {

@@ -1,4 +1,4 @@
-use Rattle.std.proofs.Common.{◌≡◌, ◌∙◌, ℕ, subst, arith}
+use Rattle.std.proofs.Common.{◌≡◌, ◌-◌, ◌∙◌, ℕ, subst, arith}
 use Rattle.aztec_best.specs.Bench.{IsFilledFrom}
 use Rattle.aztec_best.proofs.Fronts.{bytes_ahead-most}
 use Rattle.aztec_best.proofs.Filling.{filled_to_end, filled_to_step, filled_next, next_keys, next_short, next_long}
@@ -21,6 +21,15 @@ pub runs_at-runs-requires-clause-keys : goal.runs_at-runs-requires-clause-keys
 runs_at-runs-requires-clause-keys c =
     next_keys _ _ _ _ c.loop-place.invariant.room c.loop-place.invariant.filled c.loop-place-test.true c.loop-place.invariant.within c.len-place.ensures.elements c.bytes_from-bytes.ensures
 
+pub runs_at-runs-requires-clause-long_room : goal.runs_at-runs-requires-clause-long_room
+runs_at-runs-requires-clause-long_room c = λ some.
+    omega (
+      arith,
+      c.loop-place.invariant.longs_room,
+      c.bytes_from-bytes.ensures,
+      bytes_ahead-most c.args.elements.now (c.loop-place.place - 1) (omega (arith, c.loop-place.invariant.within)),
+    )
+
 pub runs_at-runs-requires-clause-short : goal.runs_at-runs-requires-clause-short
 runs_at-runs-requires-clause-short c = next_short _ _ _ _ _ _ _ _ _ c.loop-place.invariant c.loop-place-test.true c.bytes_from-bytes.ensures
 
@@ -31,7 +40,7 @@ pub loop-place-preserved : goal.loop-place-preserved
 loop-place-preserved c =
     filled_to_step _ _ _ _ _ _ _ _ _ c.loop-place.invariant.room (filled_next _ _ _ c.loop-place.invariant.filled c.loop-place-test.true)
     (omega (arith, c.loop-place.invariant.within, c.loop-place-test.true))
-    (c.runs_at-runs.auto.shorts ∙ c.loop-place.invariant.shorts_room) (c.runs_at-runs.auto.longs ∙ c.loop-place.invariant.longs_room)
+    (c.runs_at-runs.auto.shorts ∙ c.loop-place.invariant.shorts_room) (omega (arith, c.runs_at-runs.auto.longs, c.loop-place.invariant.longs_room))
     c.bytes_from-bytes.ensures c.runs_at-runs.ensures.short c.runs_at-runs.ensures.long c.costs_at.ensures.least c.costs_at.ensures.bytes
 
 pub returns : goal.returns

@@ -23,5 +23,5 @@ overflow_add-word c =
 
 pub loop-i-preserved : goal.loop-i-preserved
 loop-i-preserved c =
-    shows_more c.args.size c.args.grid.now c.args.first c.loop-i.i c.loop-i.word c.from.result c.place-x.result.0 c.place-x.result.1 c.dark.result c.loop-i.invariant
-    c.place-x.ensures.only c.dark.ensures.module c.from.ensures
+    shows_more c.args.size c.args.grid.now c.args.first c.loop-i.i c.loop-i.word c.from.result c.place_near-x.result.0 c.place_near-x.result.1 c.dark.result c.loop-i.invariant
+    c.place_near-x.ensures.only c.dark.ensures.module c.from.ensures

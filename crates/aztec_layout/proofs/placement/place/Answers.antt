@@ -1,16 +1,9 @@
-use Rattle.std.proofs.Common.{◌≡◌, ℕ, ◌+◌, ◌-◌, ◌≤◌, subst, ap, arith}
-use Rattle.aztec_layout.specs.declared.sizes.Size.{Size}
+use Rattle.std.proofs.Common.{◌≡◌, ap, arith}
 use Rattle.aztec_layout.specs.Sizes.{layer_bits}
-use Rattle.aztec_layout.specs.Places.{IsBitPlace, bits_before}
+use Rattle.aztec_layout.specs.Places.{bits_before}
 use Rattle.aztec_layout.proofs.Layers.{bits_before-all}
-use Rattle.aztec_layout.proofs.Spots.{SamePlace, place_apart, place_free, place_only}
+use Rattle.aztec_layout.proofs.Spots.{SamePlace, at_bit, place_apart, place_free, place_only}
 use Rattle.aztec_layout.proofs.placement.place.Goals as goal
-
--- what `place_in` gives at the bit's number in its layer is the bit's place
-at_bit : (s : Size) (layer before bit x y : ℕ) → before ≡ bits_before s layer → before ≤ bit →
-    IsBitPlace s (bits_before s layer + (bit - before)) x y → IsBitPlace s bit x y
-at_bit s layer before bit x y is-before le p =
-    subst (λ (q : ℕ). IsBitPlace s q x y) (let e : bits_before s layer + (bit - before) ≡ bit = omega arith in e) p
 
 pub returns-then-bit-before-clause-only : goal.returns-then-bit-before-clause-only
 returns-then-bit-before-clause-only c = λ x y p.

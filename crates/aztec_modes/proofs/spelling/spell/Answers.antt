@@ -21,7 +21,7 @@ pub loop-code-preserved : goal.loop-code-preserved
 loop-code-preserved c =
     path_goes_on c.as_slice-codes.result.now c.as_slice-items.result.now c.loop-code.bits c.loop-code.mode c.loop-code.at c.loop-code.code-index
     (Latch Upper) c.loop-code-test.true c.loop-code.invariant c.push_code.new.bits c.code_next-mode.result c.code_count.result
-    c.in_ok-push_code.ensures c.code_next-mode.ensures c.code_count.ensures
+    c.in_ok-push_code.ensures.pushed c.code_next-mode.ensures c.code_count.ensures
 
 pub returns-clause-spelled : goal.returns-clause-spelled
 returns-clause-spelled c =

@@ -3,4 +3,4 @@ use Rattle.bmp_io.proofs.reading.see_all.Given as goal
 
 -- the modules so far stand in the grid
 abbrev pub invariant-loop-n : goal.invariant-loop-n
-invariant-loop-n l = SeenSoFar l.paint l.header l.bytes l.n l.grid
+invariant-loop-n l = SeenSoFar l.sampling l.header l.bytes l.n l.grid

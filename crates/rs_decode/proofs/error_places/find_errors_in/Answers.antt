@@ -25,6 +25,6 @@ returns-clause-places g c =
 
 pub returns-clause-few : goal.returns-clause-few
 returns-clause-few g c =
-    let found : AreErrorPlaces _ _ _ _ _ _ _ = returns-clause-places g c in
+    let found : AreErrorPlaces _ _ _ _ _ _ _ _ = returns-clause-places g c in
     count_few g.met.F.Field.laws g.F.PartialEq.eq g.met.F.Field.equal (λ t. get_or c.args.syndromes.now t g.F.Field.nought) (length c.args.syndromes.now / 2) found.locator
-    (length c.args.places.now) c.find_places.new.places c.find_places.result (length c.args.places.now) found.locates found.searched c.requires.fits c.find_places.auto.places c.find_places.ensures.count
+    (length c.args.places.now) c.args.lost.now c.find_places.new.places c.find_places.result (length c.args.places.now) found.locates found.searched c.requires.fits c.find_places.auto.places c.find_places.ensures.count

@@ -1,6 +1,6 @@
-use Rattle.std.proofs.Common.{◌≤◌, sym, subst, arith}
+use Rattle.std.proofs.Common.{sym, subst, arith}
 use Rattle.bar_base.specs.Picture.{Picture}
-use Rattle.symbol_reader.specs.GridLines.{IsPictureOf}
+use Rattle.symbol_reader.specs.GridLines.{IsPictureWithin}
 use Rattle.symbol_reader.proofs.TextModules.{picture_of, text_modules}
 use Rattle.symbol_reader.proofs.parsing.parsed.Goals as goal
 
@@ -9,6 +9,5 @@ picture-requires-clause-modules c = text_modules c.args.bytes.now c.in-Ok.sides.
 
 pub returns-clause-picture : goal.returns-clause-picture
 returns-clause-picture c =
-    let narrow : c.in-Ok.sides.0 ≤ 151 = omega (arith, c.if-width-gt-MOST_ON_SIDE.false) in
-    let short : c.in-Ok.sides.1 ≤ 151 = omega (arith, c.if-rows-gt-MOST_ON_SIDE.false) in
-    subst (λ (p : Picture). IsPictureOf c.args.bytes.now p) (sym c.in_ok-grid.ensures) (picture_of c.args.bytes.now c.in-Ok.sides.0 c.in-Ok.sides.1 c.in-Ok.ensures.good narrow short)
+    subst (λ (p : Picture). IsPictureWithin c.args.most_wide c.args.most_rows c.args.bytes.now p) (sym c.in_ok-grid.ensures) (picture_of c.args.most_wide c.args.most_rows c.args.bytes.now c.in-Ok.sides.0 c.in-Ok.sides.1 c.in-Ok.ensures.good
+    (omega (arith, c.if-width-most_wide.false)) (omega (arith, c.if-rows-most_rows.false)))

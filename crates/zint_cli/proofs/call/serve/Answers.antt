@@ -1,39 +1,19 @@
-use Rattle.std.proofs.Common.{subst}
-use Rattle.zint_words.specs.Settings.{request_in}
-use Rattle.zint_cli.specs.Effects.{HoldsText, HoldsTextPart, after}
-use Rattle.zint_cli.specs.OutputText.{output_text}
-use Rattle.zint_cli.proofs.FileLemmas.{holds_text_same, holds_text_part_same}
-use Rattle.zint_cli.proofs.Serving.{called_settings, ends_with_line, has_status, line_text, may_unanswered, reading_unanswered, status_text}
+use Rattle.std.proofs.Common.{refl}
+use Rattle.zint_settings.specs.Settings.{request_in}
+use Rattle.zint_settings.proofs.Known.{task_fit}
+use Rattle.zint_cli.specs.inner.OutputText.{output_text}
+use Rattle.zint_cli.proofs.Serving.{answered, not_answered}
 use Rattle.zint_cli.proofs.call.serve.Goals as goal
 
-pub returns-in-Ok-clause-status : goal.returns-in-Ok-clause-status
-returns-in-Ok-clause-status g c =
-    status_text _ (output_text c.in-Ok.output) _ (called_settings (request_in c.args.asking.now) _ _ _ c.in-Ok.ensures.given) c.finish.ensures.status
+pub returns-in-Ok : goal.returns-in-Ok
+returns-in-Ok g c =
+    answered _ (request_in c.args.asking.now) refl (task_fit c.args.asking.now.task) (output_text c.in-Ok.output)
+    (g.F.Files.state c.answer.new.files) (g.F.Files.writing_faults c.answer.new.files)
+    c.in-Ok.ensures.given c.in-Ok.ensures.near c.in-Ok.ensures.ended c.in-Ok.ensures.same_files c.in-Ok.ensures.writing_count c.in-Ok.ensures.input_kept
+    c.finish.ensures.status c.finish.ensures.written c.finish.ensures.part c.finish.ensures.cause c.finish.ensures.out_kept c.finish.ensures.ended
+    c.finish.ensures.quiet c.finish.ensures.line
 
-pub returns-in-Ok-clause-line : goal.returns-in-Ok-clause-line
-returns-in-Ok-clause-line g c =
-    line_text _ (output_text c.in-Ok.output) _ _ (called_settings (request_in c.args.asking.now) _ _ _ c.in-Ok.ensures.given) c.finish.ensures.status c.finish.ensures.line
-
-pub returns-in-Err-clause-status : goal.returns-in-Err-clause-status
-returns-in-Err-clause-status g c =
-    has_status _ _ c.in-Err.fault (may_unanswered (request_in c.args.asking.now) _ _ _ c.in-Err.fault c.in-Err.ensures.refused) c.tell.ensures.status
-
-pub returns-in-Err-clause-line : goal.returns-in-Err-clause-line
-returns-in-Err-clause-line g c = λ some.
-    ends_with_line _ _ _ c.in-Err.fault (may_unanswered (request_in c.args.asking.now) _ _ _ c.in-Err.fault c.in-Err.ensures.refused) c.tell.ensures.status c.tell.ensures.line
-
-pub returns-in-Ok-clause-written : goal.returns-in-Ok-clause-written
-returns-in-Ok-clause-written g c = λ zero. record {
-  text = output_text c.in-Ok.output;
-  is_answer = called_settings (request_in c.args.asking.now) _ _ _ c.in-Ok.ensures.given;
-  out = subst (λ name. HoldsText (after (g.O.Sink.held c.args.out.now) (g.O.Sink.held c.finish.new.out) (g.F.Files.state c.args.files.now) (g.F.Files.state c.finish.new.files)) name (output_text c.in-Ok.output))
-      c.output_of.ensures (holds_text_same _ _ _ _ _ (g.F.Files.state c.answer.new.files) _ c.in-Ok.ensures.same_files (c.finish.ensures.written zero));
-}
-
-pub returns-in-Ok-clause-part : goal.returns-in-Ok-clause-part
-returns-in-Ok-clause-part g c = λ twelve. record {
-  text = output_text c.in-Ok.output;
-  is_answer = called_settings (request_in c.args.asking.now) _ _ _ c.in-Ok.ensures.given;
-  out = subst (λ name. HoldsTextPart (after (g.O.Sink.held c.args.out.now) (g.O.Sink.held c.finish.new.out) (g.F.Files.state c.args.files.now) (g.F.Files.state c.finish.new.files)) name (output_text c.in-Ok.output))
-      c.output_of.ensures (holds_text_part_same _ _ _ _ _ (g.F.Files.state c.answer.new.files) _ c.in-Ok.ensures.same_files (c.finish.ensures.part twelve));
-}
+pub returns-in-Err : goal.returns-in-Err
+returns-in-Err g c =
+    not_answered _ (request_in c.args.asking.now) refl (task_fit c.args.asking.now.task) c.in-Err.fault
+    c.in-Err.ensures.refused c.tell.ensures.status c.tell.ensures.refused c.tell.ensures.line refl c.in-Err.ensures.same_files c.in-Err.ensures.input_kept

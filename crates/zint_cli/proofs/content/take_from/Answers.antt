@@ -1,5 +1,5 @@
-use Rattle.std.proofs.Common.{ap, Err, refl, subst, sym}
-use Rattle.zint_cli.specs.Content.{IsUntaken}
+use Rattle.std.proofs.Common.{ap, Err, subst, sym}
+use Rattle.zint_cli.specs.inner.Stopped.{IsUntaken}
 use Rattle.zint_cli.proofs.ContentLemmas.{content_long}
 use Rattle.zint_cli.proofs.content.take_from.Goals as goal
 

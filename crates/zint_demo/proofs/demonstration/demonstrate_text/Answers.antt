@@ -1,18 +1,19 @@
 use Rattle.std.proofs.Common.{ℕ, List, [], Ok, subst}
-use Rattle.zint_texts.specs.Steps.{Step, Then}
+use Rattle.bar_base.specs.Steps.{Step, Then}
 use Rattle.zint_demo.specs.Demonstration.{adds_line, demonstrates_text, shows_last_symbol}
 use Rattle.zint_demo.specs.declared.demonstration.Demonstration.{Demonstration}
 use Rattle.zint_demo.proofs.Answered.{answered_first, answered_later}
 use Rattle.zint_demo.proofs.demonstration.demonstrate_text.Goals as goal
+use Rattle.zint_answers.specs.declared.refusal.Refusal.{Refusal}
 
 -- the steps behind the lines of one prefix, of two and of three
-after_three : (text lines : List ℕ) → Step Demonstration
+after_three : (text lines : List ℕ) → Step Demonstration Refusal
 after_three text hundred = Then (adds_line hundred text 500) (λ lines. shows_last_symbol lines text)
 
-after_two : (text lines : List ℕ) → Step Demonstration
+after_two : (text lines : List ℕ) → Step Demonstration Refusal
 after_two text ten = Then (adds_line ten text 100) (λ hundred. after_three text hundred)
 
-after_one : (text lines : List ℕ) → Step Demonstration
+after_one : (text lines : List ℕ) → Step Demonstration Refusal
 after_one text one = Then (adds_line one text 10) (λ ten. after_two text ten)
 
 pub returns-in_err-lines-clause-given : goal.returns-in_err-lines-clause-given

@@ -1,7 +1,7 @@
 use Rattle.std.proofs.Common.{◌≡◌, ◌-◌, ◌++◌, List, ℕ, append_assoc, length}
 use Rattle.std.specs.Prelude.{codes, decimal}
 use Rattle.aztec_layout.specs.Sizes.{codewords_of}
-use Rattle.zint_texts.specs.Report.{size_text}
+use Rattle.zint_answers.specs.Report.{size_text}
 use Rattle.zint_demo.specs.Damage.{damage_of}
 use Rattle.zint_demo.specs.Demonstration.{demonstration_line}
 use Rattle.zint_demo.proofs.demonstration.put_line.Goals as goal

@@ -1,4 +1,4 @@
-use Rattle.zint_words.specs.Settings.{drawing_in}
+use Rattle.zint_settings.specs.Settings.{drawing_in}
 use Rattle.zint_draw.proofs.Heights.{answer_low}
 use Rattle.zint_draw.proofs.drawing.draw.Goals as goal
 

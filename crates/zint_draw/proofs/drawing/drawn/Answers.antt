@@ -1,6 +1,6 @@
 use Rattle.std.proofs.Common.{List, Ok, subst, ℕ}
-use Rattle.zint_texts.specs.Steps.{only}
-use Rattle.zint_words.specs.Settings.{drawing_in}
+use Rattle.bar_base.specs.Steps.{only}
+use Rattle.zint_settings.specs.Settings.{drawing_in}
 use Rattle.zint_draw.specs.Data.{not_empty}
 use Rattle.zint_draw.proofs.Drawn.{drawn_of_content}
 use Rattle.zint_draw.proofs.drawing.drawn.Goals as goal

@@ -1,5 +1,5 @@
 use Rattle.std.proofs.Common.{◌-◌, length, map, arith, sym}
-use Rattle.zint_words.specs.Settings.{segment_in}
+use Rattle.zint_settings.specs.Settings.{segment_in}
 use Rattle.zint_draw.proofs.SegmentSteps.{room_left, room_passed, segment_here}
 use Rattle.zint_draw.proofs.segments.are_within.Goals as goal
 

@@ -1,5 +1,5 @@
 use Rattle.std.proofs.Common.{◌≡◌, ◌+◌, map, take}
-use Rattle.zint_words.specs.Settings.{segment_in}
+use Rattle.zint_settings.specs.Settings.{segment_in}
 use Rattle.zint_draw.specs.Segments.{bytes_in_segments}
 use Rattle.zint_draw.proofs.segments.are_within.Given as goal
 

@@ -1,6 +1,6 @@
 use Rattle.std.proofs.Common.{map, arith}
 use Rattle.std.proofs.lemmas.Grind.{common_steps}
-use Rattle.zint_words.specs.Settings.{segment_in}
+use Rattle.zint_settings.specs.Settings.{segment_in}
 use Rattle.zint_draw.proofs.SegmentSteps.{all_done, more_done, none_left, refused_next, segment_here}
 use Rattle.zint_draw.proofs.segments.segments_elements.Goals as goal
 

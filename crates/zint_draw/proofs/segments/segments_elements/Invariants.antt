@@ -1,5 +1,5 @@
 use Rattle.std.proofs.Common.{map}
-use Rattle.zint_words.specs.Settings.{segment_in}
+use Rattle.zint_settings.specs.Settings.{segment_in}
 use Rattle.zint_draw.proofs.SegmentSteps.{SegmentsDone}
 use Rattle.zint_draw.proofs.segments.segments_elements.Given as goal
 

@@ -1,7 +1,8 @@
 use Rattle.std.proofs.Common.{ap, ◌∙◌, List, map, take_all, arith}
 use Rattle.std.specs.List.{filter_map}
 use Rattle.zint_words.specs.GivenValues.{values_of}
-use Rattle.zint_words.specs.Settings.{segment_given, segment_in, segments_of}
+use Rattle.zint_settings.specs.Settings.{segment_in}
+use Rattle.zint_words.specs.Settings.{segment_given, segments_of}
 use Rattle.zint_words.specs.declared.options.OptionName.{OptionName}
 use Rattle.zint_words.specs.declared.options.TheConstants.{SEGMENT_OPTIONS}
 use Rattle.zint_words.proofs.Segments.{with, without}

@@ -1,7 +1,8 @@
 use Rattle.std.proofs.Common.{◌≡◌, map, take}
 use Rattle.std.specs.List.{filter_map}
 use Rattle.zint_words.specs.GivenValues.{values_of}
-use Rattle.zint_words.specs.Settings.{segment_given, segment_in}
+use Rattle.zint_settings.specs.Settings.{segment_in}
+use Rattle.zint_words.specs.Settings.{segment_given}
 use Rattle.zint_words.proofs.reading.segments_of.Given as goal
 
 -- the segments of the options so far

@@ -1,6 +1,6 @@
 use Rattle.std.proofs.Common.{◌≡◌, subst, IfOk, IfErr}
 use Rattle.zint_words.specs.Outcome.{IsRefusedBy, Outcome, settings}
-use Rattle.zint_words.specs.Settings.{request_in}
+use Rattle.zint_settings.specs.Settings.{request_in}
 use Rattle.zint_words.proofs.Outcomes.{unreadable_comes, values_decide}
 use Rattle.zint_words.proofs.reading.settings_of.Goals as goal
 

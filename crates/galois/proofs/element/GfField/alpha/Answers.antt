@@ -14,4 +14,4 @@ power-requires-clause-exponent g c = omega (arith, order_positive g.P.Poly.primi
 
 pub returns : goal.returns
 returns g c = same_made (λ n within. record { number = n; of = record {}; in_range = within }) _ _ _ _
-    (rw c.ORDER.ensures at c.power.ensures.value ∙ power-mod g.P.Poly.primitive c.args.k)
+    (c.numbered.ensures ∙ rw c.ORDER.ensures at c.power.ensures.value ∙ power-mod g.P.Poly.primitive c.args.k)

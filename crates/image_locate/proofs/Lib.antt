@@ -1,0 +1,4 @@
+pub mod Search
+pub mod FinderRings
+pub mod Cuts
+pub mod CutCores

@@ -1,0 +1,14 @@
+//! A symbol somewhere in a picture of pixels: where its finder stands, and the grid of its modules.
+#![tactic(auto)]
+
+mod cutting;
+mod locating;
+mod modules_seen;
+mod rings;
+mod stand;
+#[cfg(test)]
+mod tests;
+
+pub use cutting::cut;
+pub use locating::locate;
+pub use stand::Stand;

@@ -1,0 +1,16 @@
+pub mod Searches
+pub mod RowLaws
+pub mod SpellingLaws
+pub mod ListedLaws
+pub mod DrawnRows
+pub mod FullAsciiTable
+pub mod CheckLaws
+pub mod StripePieces
+pub mod PieceTables
+pub mod Drawn128
+pub mod TextValues
+pub mod Drawn39
+pub mod Drawn93
+pub mod DrawnItf
+pub mod DrawnReads
+pub mod RowTexts

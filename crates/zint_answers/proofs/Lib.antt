@@ -1,0 +1,4 @@
+pub mod Numbers
+pub mod OneStep
+pub mod Steps
+pub mod Statuses
