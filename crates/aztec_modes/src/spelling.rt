@@ -181,7 +181,12 @@ fn push_eci(bits: &mut Bits, mode: Mode, number: u32, count: u8) -> Result<(), N
 /// Puts the bits of a code of `mode` at the end, which spells these elements (ISO/IEC 24778, Character encodation). Without memory some
 /// of them may have been put there; that is the only refusal.
 #[tactic(auto, unfolding(crate::specs::Entry::code_bits))]
-pub fn push_code(bits: &mut Bits, mode: Mode, code: Code, spelled: &[Element]) -> Result<(), NoMemory>
+pub fn push_code(
+    bits: &mut Bits,
+    mode: Mode,
+    code: Code,
+    spelled: &[Element],
+) -> Result<(), NoMemory>
     requires { HasCode mode code }
     ensures pushed { OnOk result (bits.new ≡ bits.old ++ code_bits mode code spelled.now) }
 {

@@ -130,10 +130,7 @@ impl<P: Poly> Field for Gf<P> {
     }
 
     fn mul(self, other: Gf<P>) -> Gf<P> {
-        numbered(product::<P>(
-            u32::from(self.number),
-            u32::from(other.number),
-        ))
+        numbered(product::<P>(u32::from(self.number), u32::from(other.number)))
     }
 
     fn inv(self) -> Gf<P> {

@@ -69,5 +69,5 @@ pub shown_known : (grid : Picture) → IsMatrixSymbol grid
 shown_known grid matrix = (
   light_shown grid matrix,
   sym (darkened_none grid (record grid { modules = lost_modules (grid_text grid) }) (omega (arith, as_many (grid_text grid) grid (light_shown grid matrix)))
-  (none_lost (grid_text grid) (lines_known grid 0 (row_count grid)))),
+      (none_lost (grid_text grid) (lines_known grid 0 (row_count grid)))),
 )

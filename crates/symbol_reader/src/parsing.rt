@@ -52,7 +52,12 @@ fn picture(alloc: Global, bytes: &[u8], width: u32, rows: u32) -> Result<Grid, N
 }
 
 /// The picture that a text shows, of at most so many rows of at most so many modules.
-pub(crate) fn parsed(alloc: Global, bytes: &[u8], most_wide: u32, most_rows: u32) -> Result<Grid, TextFault>
+pub(crate) fn parsed(
+    alloc: Global,
+    bytes: &[u8],
+    most_wide: u32,
+    most_rows: u32,
+) -> Result<Grid, TextFault>
     requires bytes { length bytes.now ≤ 65536 }
     requires wide { most_wide ≤ 16384 }
     requires rows { most_rows ≤ 16384 }
@@ -74,7 +79,12 @@ pub(crate) fn parsed(alloc: Global, bytes: &[u8], most_wide: u32, most_rows: u32
 
 /// The picture that a text shows, as `parse_grid` reads it, but of at most so many rows of at most so many modules; `BadSide` comes where
 /// the text is one and is larger.
-pub fn parse_within(alloc: Global, bytes: &[u8], most_wide: u32, most_rows: u32) -> Result<Grid, TextFault>
+pub fn parse_within(
+    alloc: Global,
+    bytes: &[u8],
+    most_wide: u32,
+    most_rows: u32,
+) -> Result<Grid, TextFault>
     requires bytes { length bytes.now ≤ 65536 }
     requires wide { most_wide ≤ 16384 }
     requires rows { most_rows ≤ 16384 }

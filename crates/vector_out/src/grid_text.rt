@@ -10,12 +10,7 @@ use crate::grid_lines::{GridLine, make_line};
 use bar_base::{Failed, Grid, Sink, write_all};
 
 /// Writes the line of row `y` of a grid as one piece; it is made in `line`.
-fn write_line<S: Sink>(
-    sink: &mut S,
-    grid: &Grid,
-    y: u32,
-    line: &mut GridLine,
-) -> Result<(), Failed>
+fn write_line<S: Sink>(sink: &mut S, grid: &Grid, y: u32, line: &mut GridLine) -> Result<(), Failed>
     requires row { y < row_count grid.now }
     ensures whole { OnOk result (Appends (S.held sink.old) (S.held sink.new) (line_of (row_of grid.now y))) }
     ensures part { OnErr result (AppendsPrefix (S.held sink.old) (S.held sink.new) (line_of (row_of grid.now y))) }

@@ -85,6 +85,7 @@ module _ {I O E : Type 0} (call : Call I O E) (left : Left call) where
     where
       no_text : (text : List ℕ) → Answers call (Ok text) → ⊥
       no_text text is = let e = called_once call is_known (Ok text) (Err refusal) is answer in cc
+
       by_end : (call.status ≡ 0) ⊎ ((fault : Fault) × EndsWith call fault) → EndsWith call (Refused refusal) ⊎ FailsEarly call
       by_end (inl zero) = let (text, is, wrote) = left.written zero in absurd (no_text text is)
       by_end (inr (NoMemory, ends)) = inr (inl ends)
@@ -104,6 +105,7 @@ module _ {I O E : Type 0} (call : Call I O E) (left : Left call) where
     where
       Says : (look : Look) → Drawn look → Type 0
       Says look drawn = ((call.status ≡ 0) × ((report : List ℕ) × Told look drawn report × Wrote call report)) ⊎ Fails call
+
       by_end : (look : Look) (drawn : Drawn look)
           → ((answer : Result (List ℕ) Refusal) → Answers call answer → never_refused (Told look drawn) answer)
           → (call.status ≡ 0) ⊎ ((fault : Fault) × EndsWith call fault) → Says look drawn
@@ -114,6 +116,7 @@ module _ {I O E : Type 0} (call : Call I O E) (left : Left call) where
       by_end look drawn told (inr (Unread, ends)) = inr (inl (inr ends))
       by_end look drawn told (inr (Unwritten, ends)) = inr (inr ends)
       by_end look drawn told (inr (Refused refusal, ends)) = absurd (told (Err refusal) ends.cause)
+
       by_fit : (request : Request) → call.outcome ≡ settings request → (look : Look) → request.task ≡ reading look
           → (bytes : List ℕ) (drawn : Drawn look) → content call request ≡ known bytes → Shows look bytes drawn
           → EndsWith call NoMemory ⊎ OnRequest call (λ request. IsFit request.task) → Says look drawn
@@ -122,9 +125,9 @@ module _ {I O E : Type 0} (call : Call I O E) (left : Left call) where
           let valid : IsLook look = subst IsFit task_is (fit request is) in
           let (within, told) = each look bytes drawn valid shows in
           by_end look drawn (λ answer answers.
-              answer_told look bytes (Told look drawn) within told answer
-              (subst (λ (c : Content). responds (reading look) c answer) is_known
-              (subst (λ task. responds task (content call request) answer) task_is (responded call request is answer answers)))) left.ends
+          answer_told look bytes (Told look drawn) within told answer
+          (subst (λ (c : Content). responds (reading look) c answer) is_known
+          (subst (λ task. responds task (content call request) answer) task_is (responded call request is answer answers)))) left.ends
 
   pub promised : Ran call
   promised = record {

@@ -113,6 +113,7 @@ module _ {I O E : Type 0} (call : Call I O E) where
       WritesText : List ℕ → Type 0
       WritesText line = Appends call.old.err.bytes call.new.err.bytes line
           ⊎ (Rose call.old.err.faults call.new.err.faults × AppendsPrefix call.old.err.bytes call.new.err.bytes line)
+
       by_cause : Answers call (Err one) → EndsWith call (Refused other)
       by_cause (inl refused') = record {
         cause = inl refused;

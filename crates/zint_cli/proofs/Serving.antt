@@ -147,9 +147,11 @@ module _ {I O E : Type 0} (call : Call I O E) where
     where
       wrote : call.status ≡ 0 → Wrote call text
       wrote zero = (request, is, text_over request.output text _ _ call.old.files.state mid call.new.files.state same (written zero))
+
       never : (call.status ≡ 0) ⊎ (call.status ≡ 12) → call.status ≢ 0 → call.status ≢ 12 → ⊥
       never (inl zero) not_zero not_twelve = not_zero zero
       never (inr twelve) not_zero not_twelve = not_twelve twelve
+
       by_status : (call.status ≡ 0) ⊎ (call.status ≡ 12) → (call.status ≡ 0) ⊎ ((fault : Fault) × EndsWith call fault)
       by_status (inl zero) = inl zero
       by_status (inr twelve) = inr (

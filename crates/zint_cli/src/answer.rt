@@ -17,10 +17,10 @@ use crate::content::take_content;
 use crate::output::{Output, shown_in};
 use bar_base::{Files, MOST_BYTES, Source};
 use std::alloc::Global;
+use zint_answers::Fault;
 use zint_demo::demonstrate;
 use zint_draw::draw;
 use zint_read::{picture_limit as reading_limit, read_report};
-use zint_answers::Fault;
 use zint_settings::{DrawingSettings, Settings, TaskSettings};
 
 /// The output that the settings ask for, of the content that they name. All memory is taken here, and every refusal but that of a write

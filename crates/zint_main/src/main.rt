@@ -4,8 +4,8 @@
 use bar_base::{StdFiles, StdSink, StdSource};
 use std::process::ExitCode;
 use std::{env, io};
-use zint_cli::run;
 use zint_answers::{Fault, Refusal};
+use zint_cli::run;
 
 /// Ends with the status of what the call answers. Where the list of words cannot be read, it writes nothing and ends as for want of
 /// memory, or, for another cause such as a word that is not UTF-8, as for words that the command does not take.

@@ -12,8 +12,8 @@ ghost use Rattle.zint_read.specs.frames.{sees, tells_lost};
 
 use crate::seen::Seen;
 use std::alloc::Global;
-use zint_settings::Frame;
 use zint_answers::Fault;
+use zint_settings::Frame;
 
 /// What is seen of a symbol in an image.
 pub(crate) fn seen_in(alloc: Global, frame: Frame, bytes: &[u8]) -> Result<Seen, Fault>

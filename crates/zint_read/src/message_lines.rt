@@ -113,7 +113,11 @@ fn put_eci(report: &mut Vec<u8>, eci: Option<u32>) -> Result<(), NoMemory>
 
 /// Puts the line of the body at the end of `report`.
 #[tactic(auto, unfolding(crate::specs::ReadReport::body_line))]
-pub(crate) fn put_data_line(alloc: Global, report: &mut Vec<u8>, body: &Elements) -> Result<(), NoMemory>
+pub(crate) fn put_data_line(
+    alloc: Global,
+    report: &mut Vec<u8>,
+    body: &Elements,
+) -> Result<(), NoMemory>
     ensures { OnOk result (report.new.items ≡ report.old.items ++ body_line body.now) }
 {
     put_text(report, b"data=")?;

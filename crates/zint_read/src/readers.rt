@@ -10,8 +10,8 @@ ghost use Rattle.zint_read.specs.readers.{IsWithinLimit, picture_limit, reads};
 
 use bar_base::{MOST_BMP_BYTES, MOST_BYTES};
 use std::alloc::Global;
-use zint_settings::Look;
 use zint_answers::Fault;
+use zint_settings::Look;
 
 /// The read report of what is looked for in an image.
 #[tactic(auto, using(crate::proofs::RowRefusals::row_symbol, crate::proofs::RowRefusals::row_within))]

@@ -9,8 +9,8 @@ ghost use Rattle.zint_read.specs.readers.{Drawn, HasNear, IsWithinLimit, IsWritt
 
 use crate::readers::read_as;
 use std::alloc::Global;
-use zint_settings::Look;
 use zint_answers::Fault;
+use zint_settings::Look;
 
 /// The read report of what is looked for in an image, or the first refusal: the bytes are no picture, or nothing is found in
 /// it, and then what keeps it from being read (ISO/IEC 24778, reference decode algorithm).

@@ -11,7 +11,11 @@ use symbol_reader::{LostReading, Reading};
 use zint_answers::{put_number, put_size, put_text};
 
 /// The read report of a reading, with the lost codewords where they are to be told.
-pub(crate) fn report_of(alloc: Global, tells_lost: bool, read: &LostReading) -> Result<Vec<u8>, NoMemory>
+pub(crate) fn report_of(
+    alloc: Global,
+    tells_lost: bool,
+    read: &LostReading,
+) -> Result<Vec<u8>, NoMemory>
     ensures { IfOk result (λ report. IsReportOf tells_lost read.now report.items) }
 {
     let mut report = Vec::new(alloc);

@@ -7,8 +7,8 @@ use bar_base::Paint;
 use std::alloc::Global;
 use std::process::Abort;
 use std::test::Fail;
-use zint_settings::{Frame, Look};
 use zint_answers::{Fault, ImageFault, Refusal};
+use zint_settings::{Frame, Look};
 
 // The symbol that says `Code 2D!`, compact with one layer, with the modules (0,1), (0,4) and (0,7) turned, each by column and row.
 const DAMAGED: &[u8] = b"000110001100000
@@ -233,8 +233,11 @@ fn finds_in_a_bmp_alone(rt: HostRuntime) -> Result<(), Fail> {
 
 #[test]
 fn tells_what_was_lost(rt: HostRuntime) -> Result<(), Fail> {
-    let report = seen_in(&rt, rt.alloc(), Frame::Unknown(PLAIN), DAMAGED)
-        .map_err(|_| "refused")?;
-    assert!(rt; report.as_slice().starts_with(b"size=compact 1\ncodewords=10+7\ncorrected=3\nlost=0\n"));
+    let report = seen_in(&rt, rt.alloc(), Frame::Unknown(PLAIN), DAMAGED).map_err(|_| "refused")?;
+    assert!(rt;
+        report
+            .as_slice()
+            .starts_with(b"size=compact 1\ncodewords=10+7\ncorrected=3\nlost=0\n")
+    );
     Ok(())
 }

@@ -18,7 +18,10 @@ use crate::rules::first_broken;
 use crate::values::row_symbology_in;
 use clap::error::ErrorKind;
 use std::alloc::{AllocError, Global};
-use zint_settings::{DrawingSettings, Frame, Look, Origin, ReadingSettings, RowSymbology, Segment, SetPlace, Settings, TaskSettings};
+use zint_settings::{
+    DrawingSettings, Frame, Look, Origin, ReadingSettings, RowSymbology, Segment, SetPlace,
+    Settings, TaskSettings,
+};
 
 /// The settings that the words ask for. The first word is the program's name.
 ///

@@ -6,7 +6,9 @@ ghost use Rattle.std.specs.Str.Parse.{digits_value};
 ghost use Rattle.zint_settings.specs.CharacterSets.{is_character_set};
 ghost use Rattle.zint_words.specs.Numbers.{character_set_in, is_whole_number, row_symbology_in, symbology_in, whole_number, whole_number_in};
 
-use zint_settings::{RowSymbology, Symbology, is_character_set, row_symbology_numbered, symbology_numbered};
+use zint_settings::{
+    RowSymbology, Symbology, is_character_set, row_symbology_numbered, symbology_numbered,
+};
 
 /// The number that the text writes, where it is 1 to 10 decimal digits; leading zeros are allowed.
 #[tactic(auto, unfolding(crate::specs::Numbers::whole_number))]

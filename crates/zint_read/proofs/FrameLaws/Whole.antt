@@ -25,7 +25,8 @@ sees_whole_one paint bytes = then_one (image_picture paint bytes) _ (image_pictu
 pub written_whole : (paint : Paint) (bytes : List ℕ) (grid : Picture) → IsPaint paint → IsMatrixSymbol grid → IsWrittenAt paint bytes grid
     → sees_whole paint bytes (Ok (known grid))
 unfolding sees_whole image_picture
-written_whole paint bytes grid valid matrix written =
-    (grid,
-    either_written paint bytes grid (λ b. bmp_picture paint b (Ok grid)) (λ b. text_picture b (Ok grid)) valid matrix (λ b shown. shown) (text_shows grid matrix) written,
-    refl)
+written_whole paint bytes grid valid matrix written = (
+  grid,
+  either_written paint bytes grid (λ b. bmp_picture paint b (Ok grid)) (λ b. text_picture b (Ok grid)) valid matrix (λ b shown. shown) (text_shows grid matrix) written,
+  refl,
+)

@@ -118,6 +118,8 @@ pub aztec_whole : (frame : Frame) (bytes : List ℕ) (drawn : DrawnMessage) → 
     → IsWithin bytes × ((answer : Result (List ℕ) Refusal) → reads_aztec frame bytes answer → never_refused (TellsWhole frame drawn) answer)
 aztec_whole frame bytes drawn valid whole =
     let matrix = drawn_matrix drawn.size drawn.held whole.codewords whole.grid whole.symbol.sized whole.symbol.grid in
-    let shown = written_shown frame bytes drawn.size whole.grid valid matrix whole.written in
-    (shown.0, shown_told frame bytes drawn (known whole.grid) (TellsWhole frame drawn) (near_written frame bytes drawn whole) shown.1
-    (λ read report is told. subst (λ (r : LostReading). IsReportOf (tells_lost frame) r report) (whole_read frame bytes drawn whole read is) told))
+    let shown = written_shown frame bytes drawn.size whole.grid valid matrix whole.written in (
+      shown.0,
+      shown_told frame bytes drawn (known whole.grid) (TellsWhole frame drawn) (near_written frame bytes drawn whole) shown.1
+          (λ read report is told. subst (λ (r : LostReading). IsReportOf (tells_lost frame) r report) (whole_read frame bytes drawn whole read is) told),
+    )

@@ -79,7 +79,7 @@ report_once : (symbol : ℕ) (seen : Scan) (a b : List ℕ) → IsRowReport symb
 report_once symbol seen a b p q =
     p.lines
     ∙ ap (λ (g : Option (List ℕ)). (symbol_line symbol ++ direction_line seen.backward ++ check_line seen.checks ++ body_line seen.body) ++ gs1_line g)
-        (gs1_once (slice_get seen.body 0) (drop 1 seen.body) p.gs1 q.gs1 p.shown q.shown)
+    (gs1_once (slice_get seen.body 0) (drop 1 seen.body) p.gs1 q.gs1 p.shown q.shown)
     ∙ sym q.lines
 
 -- Two answers to the same bytes are the same.
@@ -88,7 +88,7 @@ unfolding reads_row
 reads_row_one symbol bytes =
     then_one (shows_row bytes) _ (shows_row_one bytes)
     (λ picture. then_one (scans symbol picture) _ (answered_one scan_fault (row_scan (symbology_of symbol) picture.modules))
-        (λ seen. never_one (IsRowReport symbol seen) (report_once symbol seen)))
+    (λ seen. never_one (IsRowReport symbol seen) (report_once symbol seen)))
 
 -- what a drawn row reads as
 scan_with : List Element → List ℕ → Bool → Scan

@@ -36,9 +36,7 @@ fn stand_in(pixels: &Grid) -> Result<Stand, Fault>
 {
     match locate(pixels) {
         Some(stand) => Ok(stand),
-        None => Err(Fault::Refused(Refusal::BadSymbol(SymbolFault::NoFinder(
-            0, 0,
-        )))),
+        None => Err(Fault::Refused(Refusal::BadSymbol(SymbolFault::NoFinder(0, 0)))),
     }
 }
 
@@ -60,9 +58,7 @@ fn cut_at(alloc: Global, pixels: &Grid, stand: Stand) -> Result<Grid, Fault>
     }
     match bad {
         None => Err(bad_image(ImageFault::Size(pixels.width(), pixels.rows()))),
-        Some(words) => Err(Fault::Refused(Refusal::BadSymbol(SymbolFault::BadMode(
-            words,
-        )))),
+        Some(words) => Err(Fault::Refused(Refusal::BadSymbol(SymbolFault::BadMode(words)))),
     }
 }
 

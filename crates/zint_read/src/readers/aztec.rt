@@ -13,8 +13,8 @@ use crate::report::report_of;
 use crate::seen::Seen;
 use std::alloc::Global;
 use symbol_reader::{GridFault, LostReading, read_grid, read_unknown};
-use zint_settings::Frame;
 use zint_answers::{Fault, ImageFault, Refusal, SymbolFault};
+use zint_settings::Frame;
 
 /// The read report of the symbol in an image.
 #[tactic(auto, using(zint_answers::proofs::Steps::stepping), unfolding(crate::specs::readers::Aztec::reads_aztec))]

@@ -7,8 +7,8 @@ ghost use Rattle.zint_read.specs.ReadReport.{body_line};
 ghost use Rattle.zint_read.specs.readers.Row.{IsRowGs1, IsRowReport, direction_line, direction_text, reads_row, row_fault, check_line, scan_fault, scans, shows_row, symbol_line};
 
 use crate::body_lines::put_gs1_line;
-use crate::message_lines::put_data_line;
 use crate::images::bad_image;
+use crate::message_lines::put_data_line;
 use bar_base::{Element, Elements, Grid, NoMemory};
 use gs1_check::show;
 use linear_reader::{RowFault, Scan, ScanFault, parse_row, read_row};
@@ -76,13 +76,17 @@ fn scan_fault(fault: ScanFault) -> Fault
     match fault {
         ScanFault::NoMemory => Fault::NoMemory,
         ScanFault::NoStart => Fault::Refused(Refusal::BadSymbol(SymbolFault::NoFinder(0, 0))),
-        ScanFault::BadPattern(place) => Fault::Refused(Refusal::BadSymbol(SymbolFault::BadPattern(place as u64))),
+        ScanFault::BadPattern(place) => Fault::Refused(Refusal::BadSymbol(SymbolFault::BadPattern(
+            place as u64,
+        ))),
         ScanFault::BadCheck(place, given, wanted) => Fault::Refused(Refusal::BadCheck {
             given,
             place: place as u64,
             wanted,
         }),
-        ScanFault::BadSpelling(place) => Fault::Refused(Refusal::BadSymbol(SymbolFault::BadValue(place as u64))),
+        ScanFault::BadSpelling(place) => Fault::Refused(Refusal::BadSymbol(SymbolFault::BadValue(
+            place as u64,
+        ))),
     }
 }
 
