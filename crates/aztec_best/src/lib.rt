@@ -24,6 +24,3 @@ pub use bench::{Bench, path_next, shortest};
 pub use draw::drawn;
 pub use limit::MOST_ELEMENTS;
 pub use stand::Stand;
-
-#[cfg(test)]
-mod tests;

@@ -10,6 +10,3 @@ mod symbol;
 pub use drawing::draw_elements;
 pub use fault::DrawFault;
 pub use symbol::AztecSymbol;
-
-#[cfg(test)]
-mod tests;

@@ -33,6 +33,3 @@ pub use sizes::{Size, bits, codewords, holds, side, width};
 pub use stuffing::stuff;
 pub use symbol::draw;
 pub use unstuffing::{WordFault, unstuff};
-
-#[cfg(test)]
-mod tests;

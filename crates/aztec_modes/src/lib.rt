@@ -21,6 +21,3 @@ pub use path::Path;
 pub use reading::{ReadFault, read};
 pub use spelling::{push_code, spell};
 pub use table::{DIGIT, LOWER, MIXED, PUNCT, Symbol, UPPER, symbol_at, width};
-
-#[cfg(test)]
-mod tests;

@@ -28,8 +28,6 @@ mod std_sink;
 mod std_source;
 mod stripes;
 mod take_fault;
-#[cfg(test)]
-mod tests;
 mod write_buffer;
 mod writing;
 

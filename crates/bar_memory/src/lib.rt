@@ -10,8 +10,6 @@ mod place;
 mod stored_file;
 mod stored_files;
 mod sure_source;
-#[cfg(test)]
-mod tests;
 
 pub use memory_files::MemoryFiles;
 pub use memory_sink::MemorySink;

@@ -10,8 +10,6 @@ mod pixels_read;
 mod reading;
 mod refusals;
 mod sampling;
-#[cfg(test)]
-mod tests;
 mod writing;
 
 pub use fault::{BmpFault, BmpField};

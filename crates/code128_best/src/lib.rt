@@ -24,6 +24,3 @@ pub use effect::{Effect, Spelled, act};
 pub use state::{CodeSet, State};
 pub use symbol::{check, check_of_values, modules, pattern};
 pub use values::Values;
-
-#[cfg(test)]
-mod tests;

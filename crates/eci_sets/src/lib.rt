@@ -12,8 +12,6 @@ mod encoding;
 mod fault;
 mod joined_text;
 mod tables;
-#[cfg(test)]
-mod tests;
 mod utf16;
 
 pub use decoding::decode;

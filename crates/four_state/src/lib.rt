@@ -8,6 +8,3 @@ mod symbol;
 pub use bars::{LONG_BARS, long_bars};
 pub use characters::CHARACTERS;
 pub use symbol::{RM4SCC_MOST_BYTES, rm4scc};
-
-#[cfg(test)]
-mod tests;

@@ -12,6 +12,3 @@ pub use element::{Gf, Gf16, Gf64, Gf256, Gf1024, Gf4096};
 pub use field::Field;
 pub use polynomial::{P16, P64, P256, P1024, P4096, Poly};
 pub use tables::{Tables, element_of};
-
-#[cfg(test)]
-mod tests;

@@ -10,8 +10,6 @@ mod parsing;
 mod section;
 mod showing;
 mod slices;
-#[cfg(test)]
-mod tests;
 mod value;
 
 pub use check::check_digit;

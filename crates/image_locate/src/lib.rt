@@ -6,8 +6,6 @@ mod locating;
 mod modules_seen;
 mod rings;
 mod stand;
-#[cfg(test)]
-mod tests;
 
 pub use cutting::cut;
 pub use locating::locate;

@@ -6,8 +6,6 @@ mod escaping;
 mod fault;
 mod form;
 mod piece;
-#[cfg(test)]
-mod tests;
 mod unescaping;
 
 pub use escaping::{escape, escape_text};

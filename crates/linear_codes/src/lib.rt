@@ -20,6 +20,3 @@ pub use code93_table::pattern93;
 pub use full_ascii::{FULL_ASCII_LETTERS, FULL_ASCII_SIGNS};
 pub use itf14_symbol::{ITF14_MOST_DIGITS, itf14};
 pub use itf14_table::{pattern_itf, pattern_pair};
-
-#[cfg(test)]
-mod tests;

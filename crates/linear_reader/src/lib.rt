@@ -16,6 +16,3 @@ mod valuing;
 pub use parsing::{RowFault, parse_row};
 pub use reading::read_row;
 pub use scan::{Scan, ScanFault};
-
-#[cfg(test)]
-mod tests;

@@ -12,8 +12,6 @@ mod remainders;
 mod room;
 mod search;
 mod syndromes;
-#[cfg(test)]
-mod tests;
 mod too_damaged;
 
 pub use lost::count_lost;

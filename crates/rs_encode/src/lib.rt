@@ -6,8 +6,6 @@ mod encoder;
 mod generator;
 mod numbers;
 mod rows;
-#[cfg(test)]
-mod tests;
 
 pub use encoder::encode;
 pub use numbers::encode_numbers;

@@ -2,8 +2,6 @@
 #![tactic(auto)]
 
 mod gaps;
-#[cfg(test)]
-mod tests;
 
 pub use gaps::{Gaps, decode_lost};
 pub use rs_decode::TooDamaged;

@@ -23,6 +23,3 @@ pub use reading::{LostReading, Reading, read_grid, read_unknown};
 pub use text_fault::TextFault;
 pub use unknown::Unknown;
 pub use unknown_parsing::parse_unknown;
-
-#[cfg(test)]
-mod tests;

@@ -7,8 +7,6 @@ mod grid_lines;
 mod grid_text;
 mod line;
 mod runs;
-#[cfg(test)]
-mod tests;
 mod texts;
 
 pub use drawing::{write_eps, write_svg};
