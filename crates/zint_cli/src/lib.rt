@@ -11,6 +11,3 @@ mod painted;
 mod tell;
 
 pub use call::run;
-
-#[cfg(test)]
-mod tests;

@@ -8,6 +8,3 @@ mod generator;
 mod text;
 
 pub use demonstration::{Demonstration, demonstrate};
-
-#[cfg(test)]
-mod tests;

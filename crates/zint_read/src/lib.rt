@@ -9,8 +9,6 @@ mod readers;
 mod reading;
 mod report;
 mod seen;
-#[cfg(test)]
-mod tests;
 
 pub use readers::picture_limit;
 pub use reading::read_report;

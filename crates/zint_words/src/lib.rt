@@ -11,8 +11,6 @@ mod options;
 mod reading;
 mod refusal;
 mod rules;
-#[cfg(test)]
-mod tests;
 mod values;
 
 pub use reading::settings_of;

@@ -2,12 +2,12 @@
 
 ghost use Rattle.zint_settings.specs.Looks.{IsFrame};
 
-use crate::read_report;
 use bar_base::Paint;
 use std::alloc::Global;
 use std::process::Abort;
 use std::test::Fail;
 use zint_answers::{Fault, ImageFault, Refusal};
+use zint_read::read_report;
 use zint_settings::{Frame, Look};
 
 // The symbol that says `Code 2D!`, compact with one layer, with the modules (0,1), (0,4) and (0,7) turned, each by column and row.
@@ -112,7 +112,7 @@ const PLAIN: Paint = Paint {
 };
 
 // What few bytes read as.
-#[tactic(auto, using(crate::proofs::Limits::few_within))]
+#[tactic(auto, using(zint_read::proofs::Limits::few_within))]
 fn answer<R: Abort>(rt: &R, alloc: Global, bytes: &[u8]) -> Result<Vec<u8>, Fault> {
     assert!(rt; bytes.len() <= 65536);
     read_report(alloc, Look::Aztec(Frame::Whole(PLAIN)), bytes)
@@ -206,7 +206,7 @@ fn tells_a_bmp_by_its_first_two_bytes(rt: HostRuntime) -> Result<(), Fail> {
 }
 
 // What is seen of few bytes in another frame.
-#[tactic(auto, using(crate::proofs::Limits::few_within))]
+#[tactic(auto, using(zint_read::proofs::Limits::few_within))]
 fn seen_in<R: Abort>(rt: &R, alloc: Global, frame: Frame, bytes: &[u8]) -> Result<Vec<u8>, Fault>
     requires { IsFrame frame }
 {

@@ -1,9 +1,10 @@
-use crate::options::{OPTION_NAMES, OptionName};
-use crate::{Refusal, settings_of};
+//! What words ask for, and which rule they break.
+
 use bar_base::Paint;
 use std::alloc::Global;
 use std::test::Fail;
 use zint_settings::{FORMS, Frame, Look, SYMBOLOGIES, Settings, Symbology, TaskSettings};
+use zint_words::{Refusal, settings_of};
 
 // The words with `|` between them, behind the program's name.
 fn listed(alloc: Global, words: &str) -> Result<Vec<String>, Fail> {
@@ -293,6 +294,7 @@ const HELD: &[(&str, &str)] = &[
     ("--read|-ia", "paint 1 0 0"),
     ("--read|-ia|--erasures|--scale=3", "unknown, paint 3 0 0"),
     ("--read|-ia|--find", "anywhere"),
+    ("--scan=20|-ia", "row 20"),
     (
         "-b92|-dA|--structapp=02,026",
         "share 23, paint 1 0 0, height 50, place 2 of 26 ",
@@ -360,6 +362,7 @@ fn looked_for(alloc: Global, look: Look) -> Result<String, Fail> {
         Look::Aztec(Frame::Whole(paint)) => painted(alloc, "paint", paint),
         Look::Aztec(Frame::Unknown(paint)) => painted(alloc, "unknown, paint", paint),
         Look::Aztec(Frame::Anywhere) => Ok(String::from_str(alloc, "anywhere")?),
+        Look::Row(symbology) => Ok(format!(in alloc; "row {}", symbology.number())?),
     }
 }
 
@@ -380,41 +383,81 @@ const NAMED: &[(Symbology, u32, &str)] = &[
     (Symbology::AztecRune, 128, "Aztec rune"),
 ];
 
-// The numbers of the symbologies that an option is for.
-const SUITED: &[(OptionName, &[u32])] = &[
-    (OptionName::Gs1, &[16, 92]),
-    (OptionName::Gs1parens, &[16, 92]),
-    (OptionName::Eci, &[92]),
-    (OptionName::Secure, &[92]),
-    (OptionName::Vers, &[8, 92]),
-    (OptionName::Scale, &[8, 9, 16, 20, 25, 70, 89, 92, 128]),
-    (OptionName::Height, &[8, 9, 16, 20, 25, 89]),
-    (OptionName::Structapp, &[92]),
-    (OptionName::Seg1, &[92]),
-    (OptionName::Seg9, &[92]),
+// An option, its name, and the numbers of the symbologies that it is for. With each other symbology `-b` is named.
+const SUITED: &[(&str, &str, &[u32])] = &[
+    ("--gs1", "--gs1 with -b", &[16, 92]),
+    ("--gs1parens", "--gs1parens with -b", &[16, 92]),
+    ("--eci=3", "--eci with -b", &[92]),
+    ("--secure=1", "--secure with -b", &[92]),
+    ("--vers=1", "--vers with -b", &[8, 92]),
+    (
+        "--scale=1",
+        "--scale with -b",
+        &[8, 9, 16, 20, 25, 70, 89, 92, 128],
+    ),
+    ("--height=1", "--height with -b", &[8, 9, 16, 20, 25, 89]),
+    ("--structapp=1,2", "--structapp with -b", &[92]),
+    ("--seg1=7,x", "--seg1 with -b", &[92]),
+    ("--seg9=7,x", "--seg9 with -b", &[92]),
 ];
 
 #[test]
-fn symbologies(rt: HostRuntime) {
+fn symbologies(rt: HostRuntime) -> Result<(), Fail> {
     for row in NAMED.iter() {
         assert_eq!(rt; row.0.number(), row.1);
         assert_eq!(rt; row.0.name(), row.2);
     }
     for row in SUITED.iter() {
         for symbology in SYMBOLOGIES.iter() {
-            assert_eq!(rt;
-                row.0.suits(*symbology),
-                row.1.contains(&symbology.number())
-            );
+            let number = symbology.number();
+            let words = format!(in rt.alloc(); "-b{}|-dA|{}", number, row.0)?;
+            let told = answer(rt.alloc(), words.as_str())?;
+            assert_eq!(rt; told.as_str() != row.1, row.2.contains(&number));
         }
     }
+    Ok(())
 }
+
+// Each option that the demonstration may not be given with, by its row of the table of options.
+const ROWS: &[(&str, &str)] = &[
+    ("-b92", "--demo with -b"),
+    ("-dA", "--demo with -d"),
+    ("-ia", "--demo with -i"),
+    ("--direct|-oa", "--direct with -o"),
+    ("--filetype=svg", "--demo with --filetype"),
+    ("--esc", "--demo with --esc"),
+    ("--binary", "--demo with --binary"),
+    ("--gs1", "--demo with --gs1"),
+    ("--gs1parens", "--demo with --gs1parens"),
+    ("--eci=3", "--demo with --eci"),
+    ("--secure=1", "--demo with --secure"),
+    ("--vers=1", "--demo with --vers"),
+    ("--scale=1", "--demo with --scale"),
+    ("--whitesp=1", "--demo with --whitesp"),
+    ("--vwhitesp=1", "--demo with --vwhitesp"),
+    ("--height=1", "--demo with --height"),
+    ("--structapp=1,2", "--demo with --structapp"),
+    ("--read", "--demo with --read"),
+    ("--seg1=7,x", "--demo with --seg1"),
+    ("--seg2=7,x", "--demo with --seg2"),
+    ("--seg3=7,x", "--demo with --seg3"),
+    ("--seg4=7,x", "--demo with --seg4"),
+    ("--seg5=7,x", "--demo with --seg5"),
+    ("--seg6=7,x", "--demo with --seg6"),
+    ("--seg7=7,x", "--demo with --seg7"),
+    ("--seg8=7,x", "--demo with --seg8"),
+    ("--seg9=7,x", "--demo with --seg9"),
+    ("--erasures", "--demo with --erasures"),
+    ("--scan=20", "--demo with --scan"),
+    ("--find", "--demo with --find"),
+];
 
 // Each row of a table stands at the place of its variant.
 #[test]
-fn places(rt: HostRuntime) {
-    for (place, option) in OPTION_NAMES.iter().enumerate() {
-        assert_eq!(rt; *option as usize, place);
+fn places(rt: HostRuntime) -> Result<(), Fail> {
+    for row in ROWS.iter() {
+        let words = format!(in rt.alloc(); "--demo=1|{}", row.0)?;
+        assert_eq!(rt; answer(rt.alloc(), words.as_str())?.as_str(), row.1);
     }
     for (place, symbology) in SYMBOLOGIES.iter().enumerate() {
         assert_eq!(rt; *symbology as usize, place);
@@ -422,4 +465,5 @@ fn places(rt: HostRuntime) {
     for (place, form) in FORMS.iter().enumerate() {
         assert_eq!(rt; *form as usize, place);
     }
+    Ok(())
 }

@@ -1,66 +1,10 @@
 //! Whole calls over objects in memory: what a failing outside leaves.
-use crate::run;
-use bar_base::NoMemory;
-use bar_memory::{MemoryFiles, MemorySink, MemorySource};
-use std::alloc::{AllocError, Global};
+
+use crate::memory_calls::{Fails, NONE, call};
 use std::test::Fail;
 
 const RUNE_0: &str =
     "11101010101\n11111111111\n01000000010\n11011111011\n01010001010\n11010101011\n01010001010\n11011111011\n01000000010\n01111111111\n00101010100\n";
-
-/// The room of the outputs and of files, in bytes.
-const ROOM: usize = 4096;
-
-/// The numbers of the calls that fail, of each object of the outside.
-#[derive(Clone, Copy)]
-struct Fails<'a> {
-    input: &'a [u64],
-    files: &'a [u64],
-    out: &'a [u64],
-    err: &'a [u64],
-}
-
-const NONE: Fails<'static> = Fails {
-    input: &[],
-    files: &[],
-    out: &[],
-    err: &[],
-};
-
-/// What a call left.
-#[derive(Drop)]
-struct Left {
-    status: u8,
-    files: MemoryFiles,
-    out: MemorySink,
-    err: MemorySink,
-}
-
-fn words_of(alloc: Global, words: &[&str]) -> Result<Vec<String>, AllocError> {
-    let mut all = Vec::new(alloc);
-    all.push("zint".to_string(alloc)?)?;
-    for word in words {
-        all.push(word.to_string(alloc)?)?;
-    }
-    Ok(all)
-}
-
-/// The call of these words, over an input and a file `x` that can be made.
-fn call(alloc: Global, words: &[&str], input: &[u8], fails: &Fails<'_>) -> Result<Left, NoMemory> {
-    let words = words_of(alloc, words)?;
-    let mut input = MemorySource::new(alloc, input, fails.input)?;
-    let mut files = MemoryFiles::new(alloc, fails.files)?;
-    files.reserve("x", ROOM)?;
-    let mut out = MemorySink::new(alloc, ROOM, fails.out)?;
-    let mut err = MemorySink::new(alloc, ROOM, fails.err)?;
-    let status = run(alloc, &words, &mut input, &mut files, &mut out, &mut err);
-    Ok(Left {
-        status,
-        files,
-        out,
-        err,
-    })
-}
 
 /// The report of `Code 2D!`: the lines before the grid in one write, and each line of the grid in one more.
 const HEAD: &str =
