@@ -144,6 +144,14 @@ const READINGS: &[(&str, &str)] = &[
     ("--read|--find|--vwhitesp=2", "--find with --vwhitesp"),
     ("--read|--find|--erasures", "--find with --erasures"),
     ("--read|--find", "no input"),
+    ("--scan=8|-ia|-ob", "ok"),
+    ("--scan=9|-ia|--direct", "ok"),
+    ("--scan=25|-ia", "ok"),
+    ("--scan=89|-ia", "ok"),
+    ("--scan=16|-ia", "--scan=16"),
+    ("--scan=20|-ia|--find|--scale=2", "--scan with --scale"),
+    ("--scan=20|-dA", "--scan with -d"),
+    ("--scan=20", "no input"),
 ];
 
 // Each symbology by its number, and the default.

@@ -10,4 +10,6 @@ mod failing_outside;
 #[cfg(test)]
 mod memory_calls;
 #[cfg(test)]
+mod other_readings;
+#[cfg(test)]
 mod read_reports;
