@@ -11,10 +11,10 @@ fn read(alloc: Global, option: &str, input: &[u8]) -> Result<Left, NoMemory> {
     call(alloc, &["--read", option, "-i", "-"], input, &NONE)
 }
 
-/// The grid of `Code 2D!` with unknown modules at these places in its text.
-fn unknown_at(alloc: Global, places: &[usize]) -> Result<Vec<u8>, NoMemory> {
+/// The text of a grid with unknown modules at these places.
+fn unknown_at(alloc: Global, grid: &[u8], places: &[usize]) -> Result<Vec<u8>, NoMemory> {
     let mut text = Vec::new(alloc);
-    for (place, module) in GRID.as_bytes().iter().enumerate() {
+    for (place, module) in grid.iter().enumerate() {
         text.push(if places.contains(&place) {
             b'?'
         } else {
@@ -28,7 +28,7 @@ fn unknown_at(alloc: Global, places: &[usize]) -> Result<Vec<u8>, NoMemory> {
 // in the middle of the finder.
 #[test]
 fn unknown_modules_are_lost_codewords(rt: HostRuntime) -> Result<(), Fail> {
-    let four = unknown_at(rt.alloc(), &[32, 64, 145, 160])?;
+    let four = unknown_at(rt.alloc(), GRID.as_bytes(), &[32, 64, 145, 160])?;
     let told = read(rt.alloc(), "--erasures", &four)?;
     assert_eq!(rt; told.status, 0);
     assert_eq!(rt;
@@ -45,7 +45,7 @@ text=Code 2D!
 "
             .as_slice()
     );
-    let middle = unknown_at(rt.alloc(), &[119])?;
+    let middle = unknown_at(rt.alloc(), GRID.as_bytes(), &[119])?;
     let told = read(rt.alloc(), "--erasures", &middle)?;
     assert_eq!(rt; told.status, 14);
     assert_eq!(rt; told.err.bytes(), b"error 14: 7,7\n".as_slice());
