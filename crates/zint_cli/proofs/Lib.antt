@@ -1,6 +1,7 @@
 pub mod AnswerLemmas
 pub mod ContentLemmas
 pub mod Drawings
+pub mod FileLemmas
 pub mod OneAnswer
 pub mod Promises
 pub mod Requests

@@ -1,5 +1,5 @@
 -- How a call ended and what it left gives all that is promised of it.
-use Rattle.std.proofs.Common.{◌≡◌, ◌≢◌, ◌⊎◌, ℕ, List, Result, Ok, Err, IsSome, false, sym, subst, ◌∙◌, inl, inr, arith}
+use Rattle.std.proofs.Common.{◌≡◌, ◌≢◌, ◌⊎◌, ℕ, List, Some, Result, Ok, Err, IsSome, false, sym, subst, ◌∙◌, inl, inr, arith}
 use Rattle.std.specs.Io.KnownBytes.{IsAtEnd}
 use Rattle.bar_base.specs.Files.{SameFiles, left_of}
 use Rattle.bar_base.specs.Steps.{never_refused}
@@ -14,6 +14,7 @@ use Rattle.zint_settings.specs.declared.look.Look.{Look}
 use Rattle.zint_read.specs.readers.{Drawn, IsWithinLimit, IsWritten, ShowsNear, Tells, TellsWhole, reads}
 use Rattle.zint_read.proofs.ReaderLaws.{AreTold, near_told, whole_told}
 use Rattle.zint_cli.specs.Call.{asked, responds}
+use Rattle.zint_cli.specs.Effects.{file_in}
 use Rattle.zint_cli.specs.Content.{Content, HasEnded, known, names_standard}
 use Rattle.zint_cli.specs.Ending.{Answers, EndsWith, Fails, FailsEarly, ForRequest, IsKnown, OnRequest, Wrote, content}
 use Rattle.zint_cli.specs.Headline.{Demonstrates, HasSmallestSize, IsShortest, Reads, ShowsMessage}
@@ -31,6 +32,8 @@ pub record Left {I O E : Type 0} (call : Call I O E) : Type 0 where
   pub quiet : call.status ≡ 0 → call.new.err.object ≡ call.old.err.object
   pub silent : call.status ≢ 0 → call.status ≢ 12
       → (call.new.out.object ≡ call.old.out.object) × SameFiles call.old.files.state call.new.files.state
+  pub files_kept : (name : List ℕ) → (ForRequest call (λ request. request.output ≡ Some name) → ⊥)
+      → file_in name call.new.files.state ≡ file_in name call.old.files.state
   pub out_kept : ForRequest call (λ request. IsSome request.output) → call.new.out.object ≡ call.old.out.object
   pub input_kept : OnRequest call (λ request. names_standard request.origin ≡ false) → call.new.input.object ≡ call.old.input.object
   pub ended : (call.status ≡ 0) ⊎ (call.status ≡ 12)
@@ -135,6 +138,7 @@ module _ {I O E : Type 0} (call : Call I O E) (left : Left call) where
     written = left.written;
     quiet = left.quiet;
     silent = left.silent;
+    files_kept = left.files_kept;
     out_kept = left.out_kept;
     input_kept = left.input_kept;
     ended = left.ended;

@@ -1,11 +1,10 @@
 -- The three ways in which a call ends: with its output, without an answer to its request, and without a request.
 use Rattle.std.proofs.Common.{◌≡◌, ◌≢◌, ◌⊎◌, ℕ, List, Ok, Err, IsSome, true, false, refl, sym, ap, subst, ◌∙◌, inl, inr}
 use Rattle.std.specs.declared.option.Option.{Option}
-use Rattle.std.specs.Prelude.{MatchBool, None, Some}
+use Rattle.std.specs.Prelude.{MatchBool, Some}
 use Rattle.std.specs.Io.KnownBytes.{IsAtEnd}
 use Rattle.bar_base.specs.Faults.{Rose}
 use Rattle.bar_base.specs.Files.{FilesState, SameFiles, left_of}
-use Rattle.bar_base.proofs.NamedFile.{HoldsFile-over, HoldsPart-over}
 use Rattle.zint_answers.specs.FaultLine.{status_of}
 use Rattle.bar_base.specs.Steps.{Step}
 use Rattle.zint_answers.specs.Steps.{Refuses}
@@ -17,31 +16,16 @@ use Rattle.zint_settings.specs.Settings.{MessageOrigin, OnDemonstration, Request
 use Rattle.zint_settings.proofs.Known.{IsFit}
 use Rattle.zint_cli.specs.Call.{asked, responds}
 use Rattle.zint_cli.specs.Content.{Content, HasEnded, ReadFaulted, is_standard, names_standard}
-use Rattle.zint_cli.specs.Effects.{HoldsText, HoldsTextPart, WriteFaulted, WritesLine}
+use Rattle.zint_cli.specs.Effects.{file_in, HoldsText, HoldsTextPart, WriteFaulted, WritesLine}
 use Rattle.zint_cli.specs.Ending.{EndsWith, HasCause, OnRequest, Wrote, content}
 use Rattle.zint_cli.specs.Headline.{ShowsNearGrid}
 use Rattle.zint_cli.specs.Outside.{Call}
 use Rattle.zint_cli.specs.Run.{Ran}
 use Rattle.zint_cli.specs.inner.Stopped.{IsStopped}
+use Rattle.zint_cli.proofs.FileLemmas.{faulted_over, part_other, part_over, same_file, text_other, text_over}
 use Rattle.zint_cli.proofs.Promises.{promised}
 use Rattle.zint_cli.proofs.Requests.{answers_misuse, answers_request, not_refused, of_request, on_demonstration, on_request}
 use Rattle.zint_answers.specs.declared.refusal.Refusal.{Refusal}
-
--- what was written over files that are the same
-text_over : (output : Option (List ℕ)) (text : List ℕ) (out out' : Option (List ℕ)) (old mid new : Option FilesState)
-    → SameFiles old mid → HoldsText output text out out' mid new → HoldsText output text out out' old new
-text_over None text out out' old mid new same (appended, kept) = (appended, kept ∙ same)
-text_over (Some name) text out out' old mid new same holds = HoldsFile-over name text old mid new same holds
-
-part_over : (output : Option (List ℕ)) (text : List ℕ) (out out' : Option (List ℕ)) (old mid new : Option FilesState)
-    → SameFiles old mid → HoldsTextPart output text out out' mid new → HoldsTextPart output text out out' old new
-part_over None text out out' old mid new same (appended, kept) = (appended, kept ∙ same)
-part_over (Some name) text out out' old mid new same holds = HoldsPart-over name text old mid new same holds
-
-faulted_over : (output : Option (List ℕ)) (Faulted : Type 0) (old mid new : ℕ) → mid ≡ old → WriteFaulted output Faulted (Rose mid new)
-    → WriteFaulted output Faulted (Rose old new)
-faulted_over None Faulted old mid new same faulted = faulted
-faulted_over (Some name) Faulted old mid new same faulted = subst (λ count. Rose count new) same faulted
 
 -- what was read to its end stays so while the output is written
 ended_over : (origin : MessageOrigin) (Ended Mid New : Type 0) → (Mid → New) → HasEnded origin Ended Mid → HasEnded origin Ended New
@@ -71,6 +55,7 @@ module _ {I O E : Type 0} (call : Call I O E) where
     written = λ zero. absurd (some zero);
     quiet = λ zero. absurd (some zero);
     silent = λ not_zero not_twelve. (out_kept, same);
+    files_kept = λ name unnamed. same_file name call.old.files.state call.new.files.state same;
     out_kept = λ named. out_kept;
     input_kept = input_kept;
     ended = λ done. absurd (never_done done);
@@ -138,6 +123,7 @@ module _ {I O E : Type 0} (call : Call I O E) where
         written = λ zero. (text, answers_request call request is (Ok text) responds, wrote zero);
         quiet = quiet;
         silent = λ not_zero not_twelve. absurd (never status not_zero not_twelve);
+        files_kept = λ name unnamed. others name (λ named. unnamed (request, is, named)) status;
         out_kept = λ named. out_kept (of_request call (λ r. IsSome r.output) request is named);
         input_kept = λ unnamed. input_kept (unnamed request is);
         ended = λ done. (request, is, ended_over request.origin _ _ _ later read_end);
@@ -147,6 +133,16 @@ module _ {I O E : Type 0} (call : Call I O E) where
     where
       wrote : call.status ≡ 0 → Wrote call text
       wrote zero = (request, is, text_over request.output text _ _ call.old.files.state mid call.new.files.state same (written zero))
+
+      prefix : call.status ≡ 12 → HoldsTextPart request.output text call.old.out.bytes call.new.out.bytes call.old.files.state call.new.files.state
+      prefix twelve = part_over request.output text _ _ call.old.files.state mid call.new.files.state same (part twelve)
+
+      others : (name : List ℕ) → (request.output ≡ Some name → ⊥) → (call.status ≡ 0) ⊎ (call.status ≡ 12)
+          → file_in name call.new.files.state ≡ file_in name call.old.files.state
+      others name other (inl zero) =
+          text_other name request.output text call.old.out.bytes call.new.out.bytes call.old.files.state call.new.files.state other (wrote zero).2
+      others name other (inr twelve) =
+          part_other name request.output text call.old.out.bytes call.new.out.bytes call.old.files.state call.new.files.state other (prefix twelve)
 
       never : (call.status ≡ 0) ⊎ (call.status ≡ 12) → call.status ≢ 0 → call.status ≢ 12 → ⊥
       never (inl zero) not_zero not_twelve = not_zero zero
@@ -162,7 +158,7 @@ module _ {I O E : Type 0} (call : Call I O E) where
             asked = is;
             text = text;
             answers = answers_request call request is (Ok text) responds;
-            part = part_over request.output text _ _ call.old.files.state mid call.new.files.state same (part twelve);
+            part = prefix twelve;
             faulted = faulted_over request.output _ call.old.files.writing_faults mid_faults call.new.files.writing_faults counted (faulted twelve);
           };
           status_is = twelve;

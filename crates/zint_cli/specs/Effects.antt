@@ -1,8 +1,10 @@
 -- What a call leaves where it writes.
 use Rattle.std.specs.Prelude.{◌⊎◌, ℕ, List, Option, Some, None}
+use Rattle.std.specs.FinMap.{get}
+use Rattle.std.specs.Option.{option_and_then}
 use Rattle.std.specs.Io.KnownBytes.{Appends}
 use Rattle.bar_base.specs.Faults.{Rose}
-use Rattle.bar_base.specs.Files.{FilesState, HoldsFile, HoldsPart, SameFiles}
+use Rattle.bar_base.specs.Files.{FilesState, HoldsFile, HoldsPart, SameFiles, files_in}
 use Rattle.bar_base.specs.Outside.{AppendsPrefix}
 use Rattle.zint_answers.specs.FaultLine.{fault_line}
 use Rattle.zint_answers.specs.declared.fault.Fault.{Fault}
@@ -27,3 +29,7 @@ WriteFaulted (Some name) out_faulted files_faulted = files_faulted
 abbrev pub WritesLine : (old new : Option (List ℕ)) (faults faults' : ℕ) → Fault → Type 0
 WritesLine old new faults faults' fault =
     Appends old new (fault_line fault) ⊎ (Rose faults faults' × AppendsPrefix old new (fault_line fault))
+
+-- the bytes of the file of a name, where the files are known and there is such a file
+abbrev pub file_in : (name : List ℕ) → Option FilesState → Option (List ℕ)
+file_in name state = option_and_then (λ files. get files name) (files_in state)

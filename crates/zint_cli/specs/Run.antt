@@ -1,5 +1,5 @@
 -- What a call of the command promises, for all words, every input, all files and every output: a sentence a field.
-use Rattle.std.specs.Prelude.{◌≡◌, ◌≢◌, ◌⊎◌, ℕ, List, Ok, Err, false, IsSome}
+use Rattle.std.specs.Prelude.{◌≡◌, ◌≢◌, ◌⊎◌, ℕ, List, Some, Ok, Err, false, IsSome}
 use Rattle.std.specs.Io.KnownBytes.{IsAtEnd}
 use Rattle.bar_base.specs.Files.{SameFiles, left_of}
 use Rattle.zint_read.specs.readers.{IsWritten, ShowsNear, Tells, TellsWhole}
@@ -8,6 +8,7 @@ use Rattle.zint_answers.specs.declared.fault.Fault.TheVariants.{NoMemory, Refuse
 use Rattle.zint_answers.specs.declared.refusal.Refusal.{Refusal}
 use Rattle.zint_cli.specs.Call.{asked}
 use Rattle.zint_cli.specs.Content.{HasEnded, names_standard}
+use Rattle.zint_cli.specs.Effects.{file_in}
 use Rattle.zint_cli.specs.Ending.{Answers, EndsWith, Fails, FailsEarly, ForRequest, IsKnown, OnRequest, Wrote}
 use Rattle.zint_cli.specs.Headline.{Demonstrates, DrawsAztec, DrawsCode128, HasFewestValues, HasSmallestSize, IsShortest, Reads, ShowsMessage}
 use Rattle.zint_cli.specs.Outside.{Call}
@@ -23,6 +24,9 @@ pub record Ran {I O E : Type 0} (call : Call I O E) : Type 0 where
   -- With every status but 0 and 12 standard output is untouched, and all files are as they were.
   pub silent : call.status ≢ 0 → call.status ≢ 12
       → (call.new.out.object ≡ call.old.out.object) × SameFiles call.old.files.state call.new.files.state
+  -- Every file but the one of `-o` is as it was, whatever the status.
+  pub files_kept : (name : List ℕ) → (ForRequest call (λ request. request.output ≡ Some name) → ⊥)
+      → file_in name call.new.files.state ≡ file_in name call.old.files.state
   -- With `-o` standard output is untouched, whatever the status.
   pub out_kept : ForRequest call (λ request. IsSome request.output) → call.new.out.object ≡ call.old.out.object
   -- Standard input is untouched where the words do not name it.

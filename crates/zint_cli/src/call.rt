@@ -62,8 +62,8 @@ fn serve<I: Source, F: Files, O: Sink, E: Sink>(
     out: &mut O,
     err: &mut E,
 ) -> u8
-    ensures { let seen = outside I.left I.faults F.state F.reading_faults F.writing_faults O.held O.faults E.held E.faults in
-        Ran (call_of (settings (request_in asking.now)) (seen input.old files.old out.old err.old)
+    ensures { let seen = outside I.left I.faults F.state F.reading_faults F.writing_faults O.held O.faults
+        E.held E.faults in Ran (call_of (settings (request_in asking.now)) (seen input.old files.old out.old err.old)
         (seen input.new files.new out.new err.new) result) }
 {
     match answer(alloc, asking, input, files) {
@@ -84,8 +84,8 @@ pub fn run<I: Source, F: Files, O: Sink, E: Sink>(
     err: &mut E,
 ) -> u8
     // What the call leaves, whatever its words and its outside are: specs/Run says it, a sentence a field.
-    ensures { let seen = outside I.left I.faults F.state F.reading_faults F.writing_faults O.held O.faults E.held E.faults in
-        Ran (call_of (outcome_of (map string_bytes words.now)) (seen input.old files.old out.old err.old)
+    ensures { let seen = outside I.left I.faults F.state F.reading_faults F.writing_faults O.held O.faults
+        E.held E.faults in Ran (call_of (outcome_of (map string_bytes words.now)) (seen input.old files.old out.old err.old)
         (seen input.new files.new out.new err.new) result) }
 {
     match asked(alloc, words) {
